@@ -360,6 +360,28 @@ def slow_ones_are_ended(program, _room):
         must("how it ends", it.end(), (0, b""))
 
 
+def slowest_are_ended(program, _room, count=11):
+    """While more waits for all clients than may, those for which the most waits are ended, and one that reads gets all."""
+    with Emulator(program) as it:
+        slow, large = [Client(it.port) for _ in range(count)], {f"k{n}": "y" * 60_000 for n in range(50)}
+        for one in slow:
+            one.socket.setsockopt(socket.SOL_SOCKET, socket.SO_RCVBUF, 4096)
+            one.ask(LISTEN, 1)
+        fast, writer, gone = Client(it.port), Client(it.port), []
+        fast.ask(LISTEN, 1)
+        for number in range(1, 41):
+            value = {**large, "number": number}
+            must("an answer beside slow ones", asked(writer, put(number, "/a/x", value)), ok(number))
+            must("what one that reads is sent", fast.text() == data("/a/x", value), True)
+            gone = [int(it) for it in re.findall(r"connection (\d+) ends: it is the slowest", "\n".join(it.told()))]
+            if gone:
+                break
+        must("whether some that don't read are ended, and no other", 0 < len(gone) < count and max(gone) <= count, True)
+        must("a write then", asked(writer, put(41, "/a/x", 1)), ok(41))
+        must("what one that reads is sent then", fast.text(), data("/a/x", 1))
+        must("how it ends", it.end(), (0, b""))
+
+
 def asked(client, message):
     """Sends a message, and answers the next text."""
     say(client, message)
@@ -708,6 +730,7 @@ SESSIONS = [
     sdks_are_refused,
     writers_that_go_are_heard,
     slow_ones_are_ended,
+    slowest_are_ended,
     too_many_listens_are_refused,
     ends_take_turns,
     floods_hold_nobody_up,

@@ -1,6 +1,7 @@
 mod Alarms
 mod Begun
 mod Behind
+mod CrowdLaws
 mod LeavingLaws
 mod Named
 mod Parameters

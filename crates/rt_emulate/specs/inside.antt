@@ -1,4 +1,5 @@
 pub mod Alarms
+pub mod Crowds
 pub mod Endings
 pub mod Guests
 pub mod Keeping

@@ -6,7 +6,7 @@ ghost use Rattle.rt_emulate.specs.inside.Endings.{close_code, close_reason, is_t
 
 use crate::broken::Broken;
 use crate::silence::{HANDSHAKE_MS, SILENCE_MS};
-use rt_hub::{Hub, MAX_LISTENS, MAX_WAITING_BYTES, MAX_WAITING_MESSAGES};
+use rt_hub::{Hub, MAX_LISTENS, MAX_WAITING_BYTES, MAX_WAITING_IN_ALL, MAX_WAITING_MESSAGES};
 use std::fmt;
 
 /// Why a guest goes.
@@ -20,6 +20,8 @@ pub(crate) enum Ending {
     Refused,
     /// More was sent to it than may wait.
     Over,
+    /// More waits for all together than may, and for no other more than for it.
+    Crowding,
     /// It has more listens than it may.
     TooManyListens,
     /// Nothing is heard of it, and a ping was not answered.
@@ -39,7 +41,8 @@ impl Ending {
     }
 
     /// The code that RFC 6455 (section 7.4.1) has for the client, where it is told why: as at
-    /// [`Broken::close_code`], or it has more listens than it may, more waits for it than may, or all are ended.
+    /// [`Broken::close_code`], or it has more listens than it may, more waits for it or for all than may, or all
+    /// are ended.
     pub(crate) fn close_code(self) -> Option<u16>
         ensures { result ≡ close_code self }
     {
@@ -47,7 +50,7 @@ impl Ending {
             Ending::Failed(why) => why.close_code(),
             Ending::Stopped => Some(1001),
             Ending::TooManyListens => Some(1008),
-            Ending::Over => Some(1013),
+            Ending::Over | Ending::Crowding => Some(1013),
             Ending::Closed(_) | Ending::Refused | Ending::Silent | Ending::Unshaken => None,
         }
     }
@@ -59,6 +62,7 @@ impl Ending {
         match self {
             Ending::TooManyListens => "more than 131072 listens",
             Ending::Over => "too slow: more waits than may",
+            Ending::Crowding => "too slow: more than 134217728 bytes wait for all clients",
             Ending::Closed(_)
             | Ending::Failed(_)
             | Ending::Refused
@@ -102,6 +106,10 @@ impl fmt::Display for Ending {
                 f,
                 "it is too slow: more than {MAX_WAITING_MESSAGES} messages or {MAX_WAITING_BYTES} \
                  bytes wait for it"
+            ),
+            Ending::Crowding => write!(
+                f,
+                "it is the slowest, and more than {MAX_WAITING_IN_ALL} bytes wait for all"
             ),
             Ending::TooManyListens => write!(
                 f,

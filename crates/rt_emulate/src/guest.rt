@@ -1,8 +1,9 @@
 // One that has come: a stream, before and after its handshake.
-ghost use Rattle.std.specs.Prelude.{◌≡◌, IfOk, Some, None, false, if◌then◌else◌, is_some};
+ghost use Rattle.std.specs.Prelude.{◌≡◌, IfOk, OnOk, Some, None, false, if◌then◌else◌, is_some};
 ghost use Rattle.std.specs.Option.{option_copied_mut, option_map};
 ghost use Rattle.rt_hub.specs.Hubs.{IsMade};
 ghost use Rattle.rt_peer.specs.Runs.{Connect};
+ghost use Rattle.rt_emulate.specs.inside.Crowds.{Counts};
 ghost use Rattle.rt_emulate.specs.inside.Guests.{HandsAs, HearsAs, number_of, rung, silence_after, talk_of};
 ghost use Rattle.rt_emulate.specs.inside.Guests.{blocked_by, is_more, unblocked};
 
@@ -10,6 +11,7 @@ use crate::broken::Broken;
 use crate::diary::Diary;
 use crate::ending::Ending;
 use crate::halt::Halt;
+use crate::on_way::OnWay;
 use crate::origin::Origins;
 use crate::silence::{Due, SILENCE_MS, Silence};
 use crate::socket::{Socket, TURN_BYTES, limits};
@@ -18,7 +20,7 @@ use mio::net::TcpStream;
 use rt_hub::Hub;
 use rt_input::Counted;
 use rt_turns::{Handed, Notes, Turn, hand_over, take_turn};
-use std::alloc::Global;
+use std::alloc::{AllocError, Global};
 use std::net::SocketAddr;
 use tungstenite::handshake::server::ServerHandshake;
 use tungstenite::handshake::{MidHandshake, server};
@@ -116,27 +118,46 @@ impl Talk {
 
     /// Sends these texts. Answers what became of its turn, if it is over: it reads nothing, and more waits for
     /// it than may.
-    pub(crate) fn answer(&mut self, texts: &[String]) -> Result<Option<Turned>, Halt> {
-        match self.socket.answer(texts) {
+    pub(crate) fn answer(
+        &mut self,
+        texts: &[String],
+        on_way: &mut OnWay,
+    ) -> Result<Option<Turned>, Halt>
+        ensures { OnOk result (Counts self.new.connection self.new.socket.unsent on_way.old on_way.new) }
+    {
+        let answered = self.socket.answer(texts);
+        self.count_unsent(on_way)?;
+        match answered {
             Ok(true) => Ok(None),
             Ok(false) => Ok(Some(Turned::Ends(Ending::Over))),
             Err(_) => Err(Halt::NoMemory),
         }
     }
 
-    /// Hands over what waits for it, and answers whether more may wait.
+    // What its socket has not sent is on its way.
+    fn count_unsent(&self, on_way: &mut OnWay) -> Result<(), AllocError>
+        ensures { OnOk result (Counts self.now.connection self.now.socket.unsent on_way.old on_way.new) }
+    {
+        on_way.set(self.connection, self.socket.unsent)
+    }
+
+    /// Hands over what waits for it, and answers whether more may wait. What its socket has not sent then is
+    /// on its way.
     pub(crate) fn hand_over(
         &mut self,
         alloc: Global,
         hub: &mut Hub,
+        on_way: &mut OnWay,
         log: &mut Diary,
     ) -> Result<bool, Halt>
         ensures handed { IfOk result (λ more. HandsAs more self.old self.new hub.old hub.new) }
         ensures kept { self.new.connection ≡ self.old.connection }
+        ensures on_way { OnOk result (Counts self.new.connection self.new.socket.unsent on_way.old on_way.new) }
     {
         let Ok(handed) = hand_over(hub, &mut self.socket, self.connection) else {
             return Err(Halt::NoMemory);
         };
+        self.count_unsent(on_way)?;
         telling::refused(alloc, log, self.connection, self.socket.take_refusals());
         Ok(self.settle(alloc, handed, log))
     }
@@ -146,6 +167,7 @@ impl Talk {
         ensures more { result ≡ is_more handed }
         ensures kept { self.new.connection ≡ self.old.connection }
         ensures blocked { self.new.is_blocked ≡ blocked_by handed self.old.is_blocked }
+        ensures unsent { self.new.socket.unsent ≡ self.old.socket.unsent }
     {
         match handed {
             Handed::Drained => false,

@@ -9,6 +9,7 @@ use crate::guest::{Guest, Turned};
 use crate::halt::Halt;
 use crate::keeper::Keeper;
 use crate::leaving::Leaving;
+use crate::on_way::OnWay;
 use crate::origin::Origins;
 use crate::place::set_place;
 use crate::present::Present;
@@ -34,6 +35,7 @@ const MOST_SENT: usize = 4_096;
 pub(crate) struct Guests {
     alloc: Global,
     hub: Hub,
+    on_way: OnWay,
     allowed: Vec<String>,
     is_telling: bool,
     pub(crate) present: Present,
@@ -53,6 +55,7 @@ impl Drop for Guests {
         let Guests {
             alloc: _,
             hub: _,
+            on_way: _,
             allowed: _,
             is_telling: _,
             present: _,
@@ -78,6 +81,7 @@ impl Guests {
         Guests {
             alloc,
             hub,
+            on_way: OnWay::new(alloc),
             allowed,
             is_telling,
             present: Present::new(alloc),
@@ -188,7 +192,7 @@ impl Guests {
         if let Some(why) = self.hand_over_to(place, log)? {
             return Ok(Some(Turned::Ends(why)));
         }
-        if self.sent >= MOST_SENT {
+        if self.sent >= MOST_SENT || self.on_way.is_crowded(&self.hub) {
             self.hand_over_all(log)?;
         }
         Ok(None)
@@ -198,16 +202,22 @@ impl Guests {
     // became of its turn, if it is over.
     fn answer(&mut self, place: usize) -> Result<Option<Turned>, Halt> {
         let answered = match self.present.talk(place) {
-            Some(talk) => talk.answer(self.notes.answers.as_slice()),
+            Some(talk) => talk.answer(self.notes.answers.as_slice(), &mut self.on_way),
             None => Ok(None),
         };
         self.notes.answers.clear();
         answered
     }
 
-    // Hands over to all that are noted.
+    // Hands over to all that are noted. Where more waits for all then than may, the slowest go.
     fn hand_over_all(&mut self, log: &mut Diary) -> Result<(), Halt> {
         self.sent = 0;
+        self.hand_over_noted(log)?;
+        self.clear_crowd(log)
+    }
+
+    // Hands over to all that are noted.
+    fn hand_over_noted(&mut self, log: &mut Diary) -> Result<(), Halt> {
         let noted = std::mem::replace(&mut self.present.noted, Vec::new(self.alloc));
         self.hand_over_each(noted.as_slice(), log)
     }
@@ -241,10 +251,28 @@ impl Guests {
         }
         // What it hears of is kept before.
         self.keeper.append()?;
-        if talk.hand_over(self.alloc, &mut self.hub, log)? {
+        if talk.hand_over(self.alloc, &mut self.hub, &mut self.on_way, log)? {
             self.present.note(place)?;
         }
         Ok(None)
+    }
+
+    // While more waits for all than may, the guest goes for which the most waits: that is taken out in the
+    // first turn of its end.
+    fn clear_crowd(&mut self, log: &mut Diary) -> Result<(), Halt> {
+        for _ in 0..u64::MAX {
+            let Some(connection) = self.on_way.crowder(&self.hub) else {
+                return Ok(());
+            };
+            if let Some(place) = self.present.guest_of(connection) {
+                self.remove(place, Ending::Crowding, log)?;
+            }
+            if self.leaving.is_empty() {
+                return Ok(());
+            }
+            self.leave_on()?;
+        }
+        Ok(())
     }
 
     // The guest at that place goes.
@@ -265,6 +293,7 @@ impl Guests {
     // The connection ends, in turns.
     fn leave(&mut self, connection: u64, why: Ending, log: &mut Diary) -> Result<(), Halt> {
         telling::ended(self.alloc, log, connection, why);
+        self.on_way.set(connection, 0)?;
         Ok(self.leaving.add(connection)?)
     }
 

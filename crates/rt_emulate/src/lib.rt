@@ -30,6 +30,7 @@ mod halt;
 mod keeper;
 mod leaving;
 mod level;
+mod on_way;
 mod origin;
 mod pen;
 mod place;

@@ -2,7 +2,8 @@
 ghost use Rattle.std.specs.Prelude.{◌≡◌, ◌≢◌, ◌∷◌, ◌++◌, [], ℕ, OnOk};
 ghost use Rattle.std.specs.Option.{option_copied_mut, option_map};
 ghost use Rattle.slab.specs.Slab.{get};
-ghost use Rattle.rt_emulate.specs.inside.Guests.{is_idle, marked, noted_after, readied, ready_after, talk_at};
+ghost use Rattle.rt_emulate.specs.inside.Guests.{guest_of, is_idle, marked, noted_after, readied, ready_after};
+ghost use Rattle.rt_emulate.specs.inside.Guests.{talk_at};
 
 use crate::alarm::Alarms;
 use crate::guest::{Guest, Talk};
@@ -55,6 +56,17 @@ impl Present {
         match self.all.get_mut(place) {
             Some(guest) => guest.talk(),
             None => None,
+        }
+    }
+
+    /// The place of the guest of that connection, if it is still there.
+    pub(crate) fn guest_of(&mut self, connection: u64) -> Option<usize>
+        ensures { result ≡ guest_of self.old connection }
+    {
+        let place = place_of(&self.places, connection)?;
+        match self.talk(place) {
+            Some(talk) if talk.connection == connection => Some(place),
+            Some(_) | None => None,
         }
     }
 

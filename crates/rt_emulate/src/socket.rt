@@ -1,11 +1,12 @@
 // A WebSocket as a door.
-ghost use Rattle.std.specs.Prelude.{◌≡◌, [], true, false, None, IfOk, Ok};
+ghost use Rattle.std.specs.Prelude.{◌≡◌, [], true, false, None, IfOk, OnOk, Ok};
 ghost use Rattle.tungstenite.specs.Content.{text as Text};
 ghost use Rattle.rt_turns.specs.declared.door.Flushed.{Flushed};
 ghost use Rattle.rt_emulate.specs.inside.Endings.{ending_of};
 ghost use Rattle.rt_emulate.specs.inside.Sockets.{Hears, IsSaid, Puts, ReadsOn, ReadsOne, Sends};
 ghost use Rattle.rt_emulate.specs.inside.Sockets.{broken_by, code_in, judged};
 ghost use Rattle.rt_emulate.specs.inside.Sockets.{heard_of, kept, passes, said_of, takes};
+ghost use Rattle.rt_emulate.specs.inside.Sockets.{unsent_by, unsent_with};
 
 use crate::broken::{Broken, done};
 use crate::ending::Ending;
@@ -45,6 +46,8 @@ pub(crate) struct Socket {
     pub(crate) was_binary: bool,
     said: Heard,
     flushed: Flushed,
+    /// How many bytes the texts have that it has taken since all that it had taken was sent.
+    pub(crate) unsent: usize,
     /// Whether as many bytes were read in the turn as are read in one, so that there may be more.
     pub(crate) is_spent: bool,
     // The code of the client's close, where it has closed.
@@ -65,6 +68,7 @@ impl Drop for Socket {
             was_binary: _,
             said: _,
             flushed: _,
+            unsent: _,
             is_spent: _,
             closed: _,
             why: _,
@@ -87,6 +91,7 @@ impl Socket {
             was_binary: false,
             said: Heard::Nothing,
             flushed: Flushed::Done,
+            unsent: 0,
             is_spent: false,
             closed: None,
             why: None,
@@ -248,12 +253,14 @@ impl Socket {
 
     // Writes a text, as far as the stream takes it, and answers what came between.
     fn write(&mut self, text: &str) -> Result<Option<Broken>, AllocError>
-        ensures { IfOk result (λ broken. takes broken ≡ true
+        ensures puts { IfOk result (λ broken. takes broken ≡ true
             → Puts (Text text.now) self.old.socket self.new.socket) }
+        ensures unsent { OnOk result (self.new.unsent ≡ unsent_with text.now self.old.unsent) }
     {
         if self.is_telling && is_refusal(text) {
             self.keep_refusal(text)?;
         }
+        self.unsent = self.unsent.saturating_add(text.len());
         let message = Message::text(self.alloc, text)?;
         match done(self.socket.write(message)) {
             Ok(()) => Ok(None),
@@ -313,6 +320,8 @@ impl Door for Socket {
         // What it takes waits to be sent, or is.
         ensures put { IfOk result (λ took. took ≡ true
             → Puts (Text text.now) self.old.socket self.new.socket) }
+        // Its bytes are not sent yet.
+        ensures unsent { OnOk result (self.new.unsent ≡ unsent_with text.now self.old.unsent) }
     {
         match self.write(text)? {
             None => Ok(true),
@@ -326,9 +335,14 @@ impl Door for Socket {
         // What it has taken is sent, as far as it goes: all of it, where it says so.
         ensures sends { Sends self.old.socket self.new.socket }
         ensures done { result ≡ Flushed.Done → self.new.socket.output ≡ [] }
+        // Then none of its bytes are unsent.
+        ensures unsent { self.new.unsent ≡ unsent_by result self.old.unsent }
     {
         self.flushed = match done(self.socket.flush()) {
-            Ok(()) => Flushed::Done,
+            Ok(()) => {
+                self.unsent = 0;
+                Flushed::Done
+            }
             Err(why) => {
                 if why.would_block() {
                     Flushed::Blocked

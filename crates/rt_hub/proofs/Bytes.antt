@@ -6,7 +6,7 @@ use Rattle.std.specs.List.{fold, slice_get}
 use Rattle.std.specs.declared.alloc.Global.{Global}
 use Rattle.rt_hub.specs.Lines.{bytes_in}
 
-from : (n : ℕ) (texts : List (List ℕ)) → fold (λ k text. k + length text) n texts ≡ n + bytes_in texts
+pub from : (n : ℕ) (texts : List (List ℕ)) → fold (λ k text. k + length text) n texts ≡ n + bytes_in texts
 from n [] = omega arith
 from n (t ∷ texts) =
     let here : fold (λ k text. k + length text) (n + length t) texts ≡ n + length t + bytes_in texts =

@@ -186,6 +186,15 @@ pub next_within : (o : Option Peer) (had : Places) (n : ℕ) → AreLinedOf o ha
 next_within None had n h all = absurd h
 next_within (Some p) had n h all = free_is_next p had n h all
 
+pub next_none : (o : Option Peer) (had : Places) (n : ℕ) → AreLinedOf o had
+    → IfSome o (λ p. is_known p.connections n ≡ false) → line_of had n ≡ None
+next_none None had n h e = absurd h
+next_none (Some p) had n h e = no_line (line_of had n) (h n ∙ e)
+  where
+    no_line : (line : Option Line) → is_some line ≡ false → line ≡ None
+    no_line None e = refl
+    no_line (Some l) e = cc
+
 pub began : (b : Bounds) (o q : Option Peer) (had has : Places) (n : ℕ) → AreLinedOf o had
     → IfSome o (λ p. n ≡ least_free p.connections) → IfSome o (λ p. q ≡ Some (connected p))
     → IsChanged n (Some empty_line) had has → IsDone b o had Connect q has

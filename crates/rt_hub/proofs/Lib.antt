@@ -4,3 +4,5 @@ mod Judged
 mod Known
 mod Places
 mod Served
+mod Slowest
+mod Totals

@@ -1,5 +1,5 @@
 -- What a hub holds, and what each call leaves of it.
-use Rattle.std.specs.Prelude.{◌≡◌, ◌==◌, ℕ, Bool, true, false, if◌then◌else◌, List, [], map}
+use Rattle.std.specs.Prelude.{◌≡◌, ◌==◌, ◌+◌, ◌≤◌, ℕ, zero, suc, Bool, true, false, if◌then◌else◌, List, [], map}
 use Rattle.std.specs.Prelude.{Option, Some, None, Result, Ok, Err}
 use Rattle.std.specs.List.{slice_get}
 use Rattle.std.specs.Option.{option_and_then, option_map, option_map_or}
@@ -16,7 +16,8 @@ use Rattle.rt_hub.specs.declared.bounds.Bounds.{Bounds}
 use Rattle.rt_hub.specs.declared.hub.Taken.{Taken}
 use Rattle.rt_hub.specs.declared.hub.Taken.TheVariants.{Message as TookMessage, PassedOver}
 use Rattle.rt_hub.specs.Bounded.{bounded, has_too_many}
-use Rattle.rt_hub.specs.Lines.{Line, empty_line, line_of, texts_to, with_texts, without_first}
+use Rattle.rt_hub.specs.Lines.{Line, bytes_for, bytes_in_all, empty_line, line_of, texts_to, with_texts}
+use Rattle.rt_hub.specs.Lines.{without_first}
 use Rattle.rt_hub.specs.Verdicts.{verdict_of}
 
 -- a peer, what may wait for each of its connections, and what does, by the numbers of the connections
@@ -101,6 +102,25 @@ abbrev pub IsHanded : Option Hub → ℕ → Option Hub → Type 0
 IsHanded None n new = new ≡ None
 IsHanded (Some old) n None = ⊥
 IsHanded (Some old) n (Some new) = Hands old n new
+
+-- ---- what waits for all
+
+-- how many bytes wait for all connections together; a hub that has lacked memory says none
+abbrev pub waits_in : Option Hub → ℕ
+waits_in hub = option_map_or (λ (h : Hub). bytes_in_all h.lines) hub 0
+
+-- how many bytes are elsewhere for the connection of that number, from 1
+abbrev pub count_of : List ℕ → ℕ → ℕ
+count_of counts zero = 0
+count_of counts (suc place) = option_map_or (λ count. count) (slice_get counts place) 0
+
+-- how many wait for it, here and elsewhere
+abbrev pub waits_for : List (Option Line) → List ℕ → ℕ → ℕ
+waits_for lines elsewhere n = bytes_for (line_of lines n) + count_of elsewhere n
+
+-- for no connection more bytes wait than for this one
+abbrev pub IsSlowest : List (Option Line) → List ℕ → ℕ → Type 0
+IsSlowest lines elsewhere n = (m : ℕ) → waits_for lines elsewhere m ≤ waits_for lines elsewhere n
 
 -- ---- what one connection may have
 

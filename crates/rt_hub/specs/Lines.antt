@@ -1,6 +1,6 @@
 -- What waits for connections, and its bounds.
 use Rattle.std.specs.Prelude.{ℕ, zero, suc, ◌+◌, ◌==◌, ◌||◌, nat_le, length, map, if◌then◌else◌}
-use Rattle.std.specs.Prelude.{Bool, true, false, List, [], ◌∷◌, ◌++◌, drop, Option, None}
+use Rattle.std.specs.Prelude.{Bool, true, false, List, [], ◌∷◌, ◌++◌, drop, Option, Some, None}
 use Rattle.std.specs.List.{filter, fold, slice_get}
 use Rattle.std.specs.Option.{option_and_then, option_map}
 use Rattle.serde_json.specs.Written.{compact_text}
@@ -33,6 +33,15 @@ line_of lines (suc place) = option_and_then (λ line. line) (slice_get lines pla
 -- how many bytes texts have
 abbrev pub bytes_in : List (List ℕ) → ℕ
 bytes_in texts = fold (λ n text. n + length text) 0 texts
+
+-- how many bytes wait for a connection, and for all together
+abbrev pub bytes_for : Option Line → ℕ
+bytes_for None = 0
+bytes_for (Some line) = bytes_in line.waiting
+
+abbrev pub bytes_in_all : List (Option Line) → ℕ
+bytes_in_all [] = 0
+bytes_in_all (line ∷ lines) = bytes_for line + bytes_in_all lines
 
 -- whether as much waits as may
 abbrev pub is_full : Bounds → List (List ℕ) → Bool

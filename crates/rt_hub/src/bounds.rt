@@ -8,6 +8,9 @@ pub const MAX_WAITING_MESSAGES: usize = 10_000;
 /// How many bytes the texts may have that wait for a connection.
 pub const MAX_WAITING_BYTES: usize = 16_777_216;
 
+/// How many bytes may wait for all connections together, also of texts that were taken and not yet sent.
+pub const MAX_WAITING_IN_ALL: usize = 134_217_728;
+
 /// How many listens a connection may have: one with more is to be ended.
 pub const MAX_LISTENS: usize = 131_072;
 

@@ -12,9 +12,9 @@ ghost use Rattle.rt_hub.specs.Verdicts.{verdict_of, verdict_when};
 ghost use Rattle.rt_hub.specs.inside.Lined.{AreLinedOf, IsDone};
 
 use crate::bounds::Bounds;
-use crate::lines::{Lines, add_line, leave_line, put_all};
 use crate::surplus::{refusal, surplus};
 use crate::verdict::{Verdict, When, verdict_when, when_in};
+use crate::waiting::Waiting;
 use rt_peer::{Peer, Sent};
 use rt_wire::ClientMessage;
 use std::alloc::{AllocError, Global};
@@ -33,30 +33,30 @@ fn receivers_of(alloc: Global, sent: &[Sent]) -> Result<Vec<u64>, AllocError>
 
 // Puts what is sent behind what waits for those that it is sent to, and answers who they are.
 fn send(
-    lines: &mut Lines,
+    lines: &mut Waiting,
     alloc: Global,
     bounds: Bounds,
     sent: &[Sent],
 ) -> Result<Vec<u64>, AllocError>
-    ensures put { OnOk result ((n : ℕ) → line_of lines.new.items n
-        ≡ with_texts bounds (texts_to n sent.now) (line_of lines.old.items n)) }
+    ensures put { OnOk result ((n : ℕ) → line_of lines.new n
+        ≡ with_texts bounds (texts_to n sent.now) (line_of lines.old n)) }
     ensures told { IfOk result (λ told. told.items ≡ receivers sent.now) }
 {
-    put_all(lines, alloc, bounds, sent)?;
+    lines.put_all(alloc, bounds, sent)?;
     receivers_of(alloc, sent)
 }
 
 // Puts what is sent for a request that is done then behind what waits for those that it is sent to, and
 // answers what became of it, and who they are; none: it is no request.
 fn send_judged(
-    lines: &mut Lines,
+    lines: &mut Waiting,
     alloc: Global,
     bounds: Bounds,
     when: Option<When>,
     sent: &[Sent],
 ) -> Result<(Verdict, Vec<u64>), AllocError>
-    ensures put { OnOk result ((n : ℕ) → line_of lines.new.items n
-        ≡ with_texts bounds (texts_to n sent.now) (line_of lines.old.items n)) }
+    ensures put { OnOk result ((n : ℕ) → line_of lines.new n
+        ≡ with_texts bounds (texts_to n sent.now) (line_of lines.old n)) }
     ensures judged { IfOk result (λ answer. answer.0 ≡ verdict_when when sent.now) }
     ensures told { IfOk result (λ answer. answer.1.items ≡ receivers sent.now) }
 {
@@ -67,19 +67,19 @@ fn send_judged(
 // A connection begins.
 pub(crate) fn begin(
     peer: &mut Peer,
-    lines: &mut Lines,
+    lines: &mut Waiting,
     alloc: Global,
     bounds: Bounds,
 ) -> Result<u64, AllocError>
-    requires { AreLinedOf peer.old lines.old.items }
+    requires { AreLinedOf peer.old lines.old }
     ensures number { IfOk result (λ n. IfSome peer.old (λ p. n ≡ least_free p.connections)) }
     ensures done { OnOk result
-        (IsDone bounds peer.old lines.old.items Connect peer.new lines.new.items) }
+        (IsDone bounds peer.old lines.old Connect peer.new lines.new) }
 {
     let Ok(connection) = peer.connect() else {
         return Err(AllocError);
     };
-    add_line(lines, alloc, connection)?;
+    lines.add_line(alloc, connection)?;
     Ok(connection)
 }
 
@@ -87,17 +87,17 @@ pub(crate) fn begin(
 // sent.
 fn ask(
     peer: &mut Peer,
-    lines: &mut Lines,
+    lines: &mut Waiting,
     alloc: Global,
     bounds: Bounds,
     connection: u64,
     message: ClientMessage,
 ) -> Result<(Verdict, Vec<u64>), AllocError>
-    requires lined { AreLinedOf peer.old lines.old.items }
+    requires lined { AreLinedOf peer.old lines.old }
     requires known { fault peer.old connection ≡ None }
     requires room { IfSome peer.old (λ p. surplus p connection message ≡ None) }
-    ensures done { OnOk result (IsDone bounds peer.old lines.old.items (Message connection message)
-        peer.new lines.new.items) }
+    ensures done { OnOk result (IsDone bounds peer.old lines.old (Message connection message)
+        peer.new lines.new) }
     ensures judged { IfOk result (λ answer. IfSome peer.old (λ p.
         answer.0 ≡ verdict_of message (bounded p (Message connection message)).1)) }
     ensures told { IfOk result (λ answer. IfSome peer.old (λ p.
@@ -112,15 +112,15 @@ fn ask(
 
 // A request too many for the end of a connection is refused.
 fn refuse(
-    lines: &mut Lines,
+    lines: &mut Waiting,
     alloc: Global,
     bounds: Bounds,
     connection: u64,
     id: u64,
     when: Option<When>,
 ) -> Result<(Verdict, Vec<u64>), AllocError>
-    ensures put { OnOk result ((n : ℕ) → line_of lines.new.items n
-        ≡ with_texts bounds (texts_to n (one connection (Refused id too_many))) (line_of lines.old.items n)) }
+    ensures put { OnOk result ((n : ℕ) → line_of lines.new n
+        ≡ with_texts bounds (texts_to n (one connection (Refused id too_many))) (line_of lines.old n)) }
     ensures judged { IfOk result (λ answer. answer.0
         ≡ verdict_when when (one connection (Refused id too_many))) }
     ensures told { IfOk result (λ answer. answer.1.items
@@ -133,16 +133,16 @@ fn refuse(
 // A known connection says something. Answers what became of it, and to whom something is sent.
 pub(crate) fn answer(
     peer: &mut Peer,
-    lines: &mut Lines,
+    lines: &mut Waiting,
     alloc: Global,
     bounds: Bounds,
     connection: u64,
     message: ClientMessage,
 ) -> Result<(Verdict, Vec<u64>), AllocError>
-    requires lined { AreLinedOf peer.old lines.old.items }
+    requires lined { AreLinedOf peer.old lines.old }
     requires known { fault peer.old connection ≡ None }
-    ensures done { OnOk result (IsDone bounds peer.old lines.old.items (Message connection message)
-        peer.new lines.new.items) }
+    ensures done { OnOk result (IsDone bounds peer.old lines.old (Message connection message)
+        peer.new lines.new) }
     ensures judged { IfOk result (λ answer. IfSome peer.old (λ p.
         answer.0 ≡ verdict_of message (bounded p (Message connection message)).1)) }
     ensures told { IfOk result (λ answer. IfSome peer.old (λ p.
@@ -157,16 +157,16 @@ pub(crate) fn answer(
 // A turn of a known connection's end. Answers to whom something is sent, and whether it was the last turn.
 pub(crate) fn end_some(
     peer: &mut Peer,
-    lines: &mut Lines,
+    lines: &mut Waiting,
     alloc: Global,
     bounds: Bounds,
     connection: u64,
     most: usize,
 ) -> Result<(Vec<u64>, bool), AllocError>
-    requires lined { AreLinedOf peer.old lines.old.items }
+    requires lined { AreLinedOf peer.old lines.old }
     requires known { fault peer.old connection ≡ None }
-    ensures done { OnOk result (IsDone bounds peer.old lines.old.items (EndSome connection most)
-        peer.new lines.new.items) }
+    ensures done { OnOk result (IsDone bounds peer.old lines.old (EndSome connection most)
+        peer.new lines.new) }
     ensures told { IfOk result (λ turn. IfSome peer.old (λ p.
         turn.0.items ≡ receivers (bounded p (EndSome connection most)).1)) }
     ensures last { IfOk result (λ turn. IfSome peer.old (λ p. turn.1 ≡ is_last_turn p connection most)) }
@@ -175,7 +175,7 @@ pub(crate) fn end_some(
         return Err(AllocError);
     };
     let is_last = turn.1;
-    leave_line(lines, alloc, connection, is_last);
+    lines.leave_line(alloc, connection, is_last);
     let told = send(lines, alloc, bounds, turn.0.as_slice())?;
     Ok((told, is_last))
 }

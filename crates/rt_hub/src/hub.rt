@@ -9,13 +9,13 @@ ghost use Rattle.rt_peer.specs.Runs.{Connect, Message, EndSome};
 ghost use Rattle.rt_peer.specs.Turns.{is_last_turn};
 ghost use Rattle.rt_hub.specs.Bounded.{bounded};
 ghost use Rattle.rt_hub.specs.Hubs.{IsHanded, IsMade, IsTaken, TakesText, first_of, line_in, new_hub};
-ghost use Rattle.rt_hub.specs.Hubs.{has_too_many_in, receivers, refused_as};
+ghost use Rattle.rt_hub.specs.Hubs.{IsSlowest, has_too_many_in, receivers, refused_as, waits_in};
 ghost use Rattle.rt_hub.specs.Verdicts.{verdict_of};
 
 use crate::bounds::{Bounds, MAX_LISTENS};
 use crate::calls::{answer, begin, end_some};
-use crate::lines::{Lines, has_line, is_over, next_of};
 use crate::verdict::Verdict;
+use crate::waiting::Waiting;
 use rt_peer::{Peer, PeerError};
 use rt_tree::{Path, Tree};
 use rt_wire::{ClientMessage, WireError};
@@ -39,7 +39,7 @@ pub struct Hub {
     alloc: Global,
     peer: Peer,
     bounds: Bounds,
-    lines: Lines,
+    lines: Waiting,
     has_failed: bool,
 }
 
@@ -62,9 +62,9 @@ impl Model for Hub {
 
     ghost Value = { Option Hub };
 
-    ghost view = { λ a. hub_of a.has_failed a.peer a.bounds a.lines.items };
+    ghost view = { λ a. hub_of a.has_failed a.peer a.bounds a.lines };
 
-    ghost invariant = { λ a. a.has_failed ≡ false → AreLinedOf a.peer a.lines.items };
+    ghost invariant = { λ a. a.has_failed ≡ false → AreLinedOf a.peer a.lines };
 }
 
 impl Hub {
@@ -78,7 +78,7 @@ impl Hub {
             alloc,
             peer: Peer::new(tree, denied),
             bounds,
-            lines: Vec::new(alloc),
+            lines: Waiting::new(alloc),
             has_failed: false,
         }
     }
@@ -122,7 +122,7 @@ impl Hub {
         if self.has_failed {
             return Err(PeerError::Failed);
         }
-        if !has_line(&self.lines, connection) {
+        if !self.lines.has_line(connection) {
             return Err(PeerError::UnknownConnection);
         }
         Ok(())
@@ -205,7 +205,7 @@ impl Hub {
         if self.has_failed {
             return None;
         }
-        next_of(&mut self.lines, connection)
+        self.lines.next_of(connection)
     }
 
     /// Whether more came to the connection where as much waited as may: it has lost something, and is to be
@@ -213,7 +213,28 @@ impl Hub {
     pub fn is_over(&self, connection: u64) -> bool
         ensures { result ≡ option_map_or (λ l. l.is_over) (line_in self.now connection) false }
     {
-        !self.has_failed && is_over(&self.lines, connection)
+        !self.has_failed && self.lines.is_over(connection)
+    }
+
+    /// How many bytes wait for all connections together. A hub that has lacked memory says 0.
+    pub fn waits(&self) -> usize
+        ensures { result ≡ waits_in self.now }
+    {
+        if self.has_failed {
+            0
+        } else {
+            self.lines.bytes()
+        }
+    }
+
+    /// The number of a connection for which as many bytes wait as for any, with those that are elsewhere: so
+    /// many for each connection by its number, from 1, and none for the others. Where none wait the number may
+    /// be 0. Costs by the number of connections.
+    #[tactic(auto, using(crate::proofs::Slowest::in_hub))]
+    pub fn slowest(&self, elsewhere: &[usize]) -> u64
+        ensures { IfSome self.now (λ h. IsSlowest h.lines elsewhere.now result) }
+    {
+        self.lines.slowest(elsewhere)
     }
 
     /// Whether the connection has more listens than it may: it is to be ended. Costs by a logarithm.

@@ -26,8 +26,11 @@ mod line;
 mod lines;
 mod surplus;
 mod verdict;
+mod waiting;
 
-pub use bounds::{Bounds, MAX_ACTIONS, MAX_LISTENS, MAX_WAITING_BYTES, MAX_WAITING_MESSAGES};
+pub use bounds::{
+    Bounds, MAX_ACTIONS, MAX_LISTENS, MAX_WAITING_BYTES, MAX_WAITING_IN_ALL, MAX_WAITING_MESSAGES,
+};
 pub use examples::line_examples;
 pub use hub::{Hub, Taken};
 pub use laws::{queue_law, verdict_law};

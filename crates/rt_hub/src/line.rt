@@ -2,7 +2,7 @@
 ghost use Rattle.std.specs.Prelude.{◌≡◌, drop, string_bytes, OnOk};
 ghost use Rattle.std.specs.List.{slice_get};
 ghost use Rattle.std.specs.Option.{option_map};
-ghost use Rattle.rt_hub.specs.Lines.{empty_line, over_line, text_of, told_more, with_text};
+ghost use Rattle.rt_hub.specs.Lines.{bytes_in, empty_line, over_line, text_of, told_more, with_text};
 
 use crate::bounds::Bounds;
 use rt_wire::ServerMessage;
@@ -59,6 +59,13 @@ impl Line {
             bytes: 0,
             is_over: true,
         }
+    }
+
+    // How many bytes wait.
+    pub(crate) fn bytes(&self) -> usize
+        ensures { result ≡ bytes_in self.now.waiting }
+    {
+        self.bytes
     }
 
     pub(crate) fn is_over(&self) -> bool

@@ -1,11 +1,11 @@
 // The lines of connections, by their numbers.
-ghost use Rattle.std.specs.Prelude.{◌≡◌, ◌+◌, ◌<◌, ◌==◌, ◌∷◌, [], ℕ, false, is_some, length, string_bytes};
+ghost use Rattle.std.specs.Prelude.{◌≡◌, ◌+◌, ◌<◌, ◌≤◌, ◌==◌, ◌∷◌, [], ℕ, false, is_some, length, string_bytes};
 ghost use Rattle.std.specs.Prelude.{if◌then◌else◌, Some, None, IfSome, OnOk};
 ghost use Rattle.std.specs.List.{fold};
 ghost use Rattle.std.specs.Option.{option_map, option_map_or};
-ghost use Rattle.rt_hub.specs.Hubs.{first_of, left_line};
-ghost use Rattle.rt_hub.specs.Lines.{checked, empty_line, line_of, texts_to, told_more, with_text};
-ghost use Rattle.rt_hub.specs.Lines.{with_texts, without_first};
+ghost use Rattle.rt_hub.specs.Hubs.{IsSlowest, count_of, first_of, left_line, waits_for};
+ghost use Rattle.rt_hub.specs.Lines.{bytes_for, empty_line, line_of, texts_to, told_more, with_text};
+ghost use Rattle.rt_hub.specs.Lines.{without_first};
 
 use crate::bounds::Bounds;
 use crate::line::Line;
@@ -42,7 +42,67 @@ pub(crate) fn has_line(lines: &Lines, connection: u64) -> bool
     }
 }
 
-// Whether more came to the connection than may wait.
+// How many bytes wait for the connection.
+pub(crate) fn bytes_of(lines: &Lines, connection: u64) -> usize
+    ensures { result ≡ bytes_for (line_of lines.now.items connection) }
+{
+    let Some(place) = place_of(lines, connection) else {
+        return 0;
+    };
+    match &lines[place] {
+        Some(line) => line.bytes(),
+        None => 0,
+    }
+}
+
+// How many bytes of the connection are elsewhere.
+fn count_of(elsewhere: &[usize], connection: u64) -> usize
+    ensures { result ≡ count_of elsewhere.now connection }
+{
+    if connection == 0 {
+        return 0;
+    }
+    match elsewhere.get((connection - 1) as usize) {
+        Some(count) => *count,
+        None => 0,
+    }
+}
+
+// How many bytes wait for the connection, here and elsewhere.
+fn waits_for(lines: &Lines, elsewhere: &[usize], connection: u64) -> u128
+    ensures { result ≡ waits_for lines.now.items elsewhere.now connection }
+{
+    bytes_of(lines, connection) as u128 + count_of(elsewhere, connection) as u128
+}
+
+// Of two connections that for which more bytes wait; the first where as many do.
+fn slower(lines: &Lines, elsewhere: &[usize], first: u64, second: u64) -> u64
+    ensures first { waits_for lines.now.items elsewhere.now first
+        ≤ waits_for lines.now.items elsewhere.now result }
+    ensures second { waits_for lines.now.items elsewhere.now second
+        ≤ waits_for lines.now.items elsewhere.now result }
+{
+    if waits_for(lines, elsewhere, first) < waits_for(lines, elsewhere, second) {
+        second
+    } else {
+        first
+    }
+}
+
+// The number of a connection for which as many bytes wait as for any; 0 where none wait.
+#[tactic(auto, using(crate::proofs::Slowest::all_looked))]
+pub(crate) fn slowest_of(lines: &Lines, elsewhere: &[usize]) -> u64
+    ensures { IsSlowest lines.now.items elsewhere.now result }
+{
+    let mut slowest = 0;
+    let most = lines.len().max(elsewhere.len());
+    for place in 0..most {
+        slowest = slower(lines, elsewhere, slowest, place as u64 + 1);
+    }
+    slowest
+}
+
+// Whether more came to the connection where as much waited as may.
 pub(crate) fn is_over(lines: &Lines, connection: u64) -> bool
     ensures { result ≡ option_map_or (λ l. l.is_over) (line_of lines.now.items connection) false }
 {
@@ -99,7 +159,7 @@ pub(crate) fn next_of(lines: &mut Lines, connection: u64) -> Option<String>
 }
 
 // Something is to be put behind what waits for the connection.
-fn check_one(lines: &mut Lines, alloc: Global, bounds: Bounds, connection: u64)
+pub(crate) fn check_one(lines: &mut Lines, alloc: Global, bounds: Bounds, connection: u64)
     ensures { (n : ℕ) → line_of lines.new.items n
         ≡ (if connection == n then option_map (told_more bounds) (line_of lines.old.items n)
         else line_of lines.old.items n) }
@@ -112,19 +172,8 @@ fn check_one(lines: &mut Lines, alloc: Global, bounds: Bounds, connection: u64)
     }
 }
 
-// These messages are to be put behind what waits for their connections: the lines are over where as much
-// waits as may.
-fn check_all(lines: &mut Lines, alloc: Global, bounds: Bounds, sent: &[Sent])
-    ensures { (n : ℕ) → line_of lines.new.items n
-        ≡ option_map (checked bounds (texts_to n sent.now)) (line_of lines.old.items n) }
-{
-    for one in sent {
-        check_one(lines, alloc, bounds, one.to);
-    }
-}
-
 // Puts the text of a message behind what waits for its connection.
-fn put_one(lines: &mut Lines, alloc: Global, one: &Sent) -> Result<(), AllocError>
+pub(crate) fn put_one(lines: &mut Lines, alloc: Global, one: &Sent) -> Result<(), AllocError>
     ensures { OnOk result ((n : ℕ) → line_of lines.new.items n
         ≡ option_map (λ l. fold with_text l (texts_to n (one.now ∷ []))) (line_of lines.old.items n)) }
 {
@@ -135,29 +184,4 @@ fn put_one(lines: &mut Lines, alloc: Global, one: &Sent) -> Result<(), AllocErro
         Some(line) => line.put(alloc, &one.message),
         None => Ok(()),
     }
-}
-
-// Puts the text of each message behind what waits for its connection, in order.
-fn put_each(lines: &mut Lines, alloc: Global, sent: &[Sent]) -> Result<(), AllocError>
-    ensures { OnOk result ((n : ℕ) → line_of lines.new.items n
-        ≡ option_map (λ l. fold with_text l (texts_to n sent.now)) (line_of lines.old.items n)) }
-{
-    for one in sent {
-        put_one(lines, alloc, one)?;
-    }
-    Ok(())
-}
-
-// Puts what one call sends behind what waits for those that it is sent to, in order.
-pub(crate) fn put_all(
-    lines: &mut Lines,
-    alloc: Global,
-    bounds: Bounds,
-    sent: &[Sent],
-) -> Result<(), AllocError>
-    ensures { OnOk result ((n : ℕ) → line_of lines.new.items n
-        ≡ with_texts bounds (texts_to n sent.now) (line_of lines.old.items n)) }
-{
-    check_all(lines, alloc, bounds, sent);
-    put_each(lines, alloc, sent)
 }

@@ -529,7 +529,6 @@ impl Journal {
         requires { is_resting self.old.book ≡ true }
         ensures kept { KeepsNotes self.old self.new }
     {
-        let tree = tree.copy(self.alloc)?;
         let anew = self.book.anew()?;
         let file = self.make(system)?;
         let gone = std::mem::replace(&mut self.gone, Gone::none());
@@ -566,26 +565,20 @@ impl Journal {
         Ok(true)
     }
 
-    // Writes to a new journal with what it begins, and puts it in the journal's place.
+    // Writes to a new journal with what it begins, and puts it in the journal's place; the one that was there
+    // is given back.
     fn fill<Y: Files<File = File>>(
         &mut self,
         system: &Y,
-        mut log: File,
+        log: &mut File,
         name: &str,
         anew: &[u8],
     ) -> io::Result<()>
         ensures kept { KeepsNotes self.old self.new }
     {
-        if !is_locked(&log)? {
-            return Err(io::Error::from(ErrorKind::WouldBlock));
-        }
-        log.write_all(anew)?;
-        log.write_all(self.since.as_slice())?;
-        if self.standing.is_synced {
-            log.sync_data()?;
-        }
+        begin_log(log, anew, self.since.as_slice(), self.standing.is_synced)?;
         fs::rename(system, name, self.place.log.as_str())?;
-        self.gone.log = Some(std::mem::replace(&mut self.log, log));
+        std::mem::swap(&mut self.log, log);
         self.since.clear();
         if self.standing.is_synced {
             sync_folder(system, self.place.log.as_str())?;
@@ -604,9 +597,12 @@ impl Journal {
     {
         let like = self.log.metadata()?;
         let log = self.place.log.as_str();
-        let (made, name) = made_beside(system, self.alloc, log, Some(&like))?;
-        match self.fill(system, made, name.as_str(), anew) {
-            Ok(()) => Ok(()),
+        let (mut made, name) = made_beside(system, self.alloc, log, Some(&like))?;
+        match self.fill(system, &mut made, name.as_str(), anew) {
+            Ok(()) => {
+                self.gone.log = Some(made);
+                Ok(())
+            }
             Err(why) => {
                 let _gone = fs::remove_file(system, name.as_str());
                 Err(why)
@@ -737,6 +733,19 @@ impl Journal {
             None
         })
     }
+}
+
+// Writes to a new journal, which nobody else has, what it begins with and what was written since.
+fn begin_log(log: &mut File, anew: &[u8], since: &[u8], is_synced: bool) -> io::Result<()> {
+    if !is_locked(log)? {
+        return Err(io::Error::from(ErrorKind::WouldBlock));
+    }
+    log.write_all(anew)?;
+    log.write_all(since)?;
+    if is_synced {
+        log.sync_data()?;
+    }
+    Ok(())
 }
 
 // A journal with what came of its replay.

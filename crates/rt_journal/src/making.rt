@@ -78,19 +78,19 @@ fn writing<R: Threads>(
 }
 
 impl Making {
-    /// Begins to write a tree to a new file, and to end what is gone. With the file the journal is to begin
-    /// anew.
+    /// Begins to write a copy of a tree to a new file, and to end what is gone. With the file the journal is to
+    /// begin anew.
     pub(crate) fn begin<R: Threads>(
         rt: &R,
         alloc: Global,
         file: File,
-        tree: Tree,
+        tree: &Tree,
         gone: Gone,
         anew: Vec<u8>,
     ) -> Result<Making, AllocError> {
         let is_done = Arc::new(alloc, AtomicBool::new(false))?;
         let theirs = Arc::try_clone(&is_done)?;
-        let thread = writing(rt, alloc, file, tree, gone, theirs)?;
+        let thread = writing(rt, alloc, file, tree.copy(alloc)?, gone, theirs)?;
         Ok(Making {
             thread,
             is_done,

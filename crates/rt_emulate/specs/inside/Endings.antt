@@ -72,18 +72,20 @@ broken_code (Capacity why) = Some 1009
 broken_code Crowded = Some 1009
 broken_code b = None
 
--- the server goes, the client has more listens than it may, or more waits for it than may
+-- the server goes, the client has more listens than it may, or more waits for it or for all than may
 abbrev pub close_code : Ending → Option ℕ
 close_code (ends.Failed why) = broken_code why
 close_code ends.Stopped = Some 1001
 close_code ends.TooManyListens = Some 1008
 close_code ends.Over = Some 1013
+close_code ends.Crowding = Some 1013
 close_code e = None
 
 -- what the client is told behind the code
 abbrev pub close_reason : Ending → List ℕ
 close_reason ends.TooManyListens = codes "more than 131072 listens"
 close_reason ends.Over = codes "too slow: more waits than may"
+close_reason ends.Crowding = codes "too slow: more than 134217728 bytes wait for all clients"
 close_reason e = []
 
 -- ---- endings

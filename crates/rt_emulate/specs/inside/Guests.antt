@@ -1,5 +1,5 @@
 -- Those that are there: what is due of them, and what is heard of one and handed over to it.
-use Rattle.std.specs.Prelude.{◌≡◌, ◌+◌, ◌-◌, ◌^◌, ℕ, min, Bool, true, false, not, ◌&&◌, ◌||◌, if◌then◌else◌}
+use Rattle.std.specs.Prelude.{◌≡◌, ◌==◌, ◌+◌, ◌-◌, ◌^◌, ℕ, min, Bool, true, false, not, ◌&&◌, ◌||◌, if◌then◌else◌}
 use Rattle.std.specs.Prelude.{List, [], ◌∷◌, ◌++◌, Option, Some, None, Result, Ok, Err}
 use Rattle.std.specs.Option.{is_none, option_and_then, option_map, option_map_or}
 use Rattle.slab.specs.Slab.{get}
@@ -30,6 +30,7 @@ use Rattle.rt_emulate.specs.declared.silence.TheConstants.{SILENCE_MS}
 use Rattle.rt_emulate.specs.declared.socket.Socket.{Socket}
 use Rattle.rt_emulate.specs.inside.Alarms.{next_time, patience, sooner}
 use Rattle.rt_emulate.specs.inside.Endings.{ending_of, too_much}
+use Rattle.rt_emulate.specs.inside.Places.{place_of}
 use Rattle.rt_emulate.specs.inside.Silences.{due_of}
 
 -- ---- who has a turn
@@ -94,6 +95,14 @@ number_of stage = option_map (λ t. t.connection) (talk_of stage)
 -- the connection of the guest at that place, if it is one
 abbrev pub talk_at : Present → ℕ → Option Talk
 talk_at p place = option_and_then (λ g. talk_of g.stage) (get p.all place)
+
+-- the place of the guest of that connection: where it was once, if the guest there is that connection
+abbrev pub talks_as : ℕ → Option Talk → Bool
+talks_as n talk = option_map_or (λ t. t.connection == n) talk false
+
+abbrev pub guest_of : Present → ℕ → Option ℕ
+guest_of p n =
+    option_and_then (λ place. if talks_as n (talk_at p place) then Some place else None) (place_of p.places.items n)
 
 -- ---- what is due
 

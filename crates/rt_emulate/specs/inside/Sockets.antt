@@ -1,5 +1,5 @@
 -- What is read of a guest's socket, and what is put into it.
-use Rattle.std.specs.Prelude.{◌≡◌, ◌++◌, ◌⊎◌, ℕ, Bool, true, false, not, ◌&&◌, ◌||◌, if◌then◌else◌, List}
+use Rattle.std.specs.Prelude.{◌≡◌, ◌++◌, ◌⊎◌, ◌+◌, ◌-◌, ◌^◌, ℕ, length, min, Bool, true, false, not, ◌&&◌, ◌||◌, if◌then◌else◌, List}
 use Rattle.std.specs.Prelude.{Option, Some, None, Result, Ok, Err}
 use Rattle.std.specs.Option.{is_some, option_map}
 use Rattle.websocket.specs.CloseCode.{close_code_number}
@@ -11,6 +11,8 @@ use Rattle.tungstenite.specs.declared.error.Error.{Error}
 use Rattle.tungstenite.specs.declared.message.CloseFrame.{CloseFrame}
 use Rattle.tungstenite.specs.declared.message.Message.{Message}
 use Rattle.tungstenite.specs.declared.message.Message.TheVariants.{Text, Binary, Ping, Pong, Close}
+use Rattle.rt_turns.specs.declared.door.Flushed.{Flushed}
+use Rattle.rt_turns.specs.declared.door.Flushed.TheVariants as flush
 use Rattle.rt_turns.specs.declared.door.Heard.{Heard}
 use Rattle.rt_turns.specs.declared.door.Heard.TheVariants as heard
 use Rattle.rt_wire.specs.Crowds.{is_crowded}
@@ -36,6 +38,15 @@ takes (Some why) = would_block why
 abbrev pub Sends : {S : Type 0} → WebSocket S → WebSocket S → Type 0
 Sends old new =
     (sent : List ℕ) × (old.output ≡ sent ++ new.output) × (new.conn ≡ old.conn) × (new.input ≡ old.input)
+
+-- how many bytes it has taken since all that it had taken was sent
+abbrev pub unsent_with : List ℕ → ℕ → ℕ
+unsent_with text unsent = min (unsent + length text) (2 ^ 64 - 1)
+
+abbrev pub unsent_by : Flushed → ℕ → ℕ
+unsent_by flush.Done unsent = 0
+unsent_by flush.Blocked unsent = unsent
+unsent_by flush.Failed unsent = unsent
 
 -- ---- what is read of it
 

@@ -1,7 +1,8 @@
 -- Rows of lines that the prover computes: bounds of two texts and of five bytes.
 use Rattle.std.specs.Prelude.{◌≡◌, ◌≢◌, false, List, [], ◌∷◌, ℕ, Option, Some, None, codes}
 use Rattle.rt_hub.specs.declared.bounds.Bounds.{Bounds}
-use Rattle.rt_hub.specs.Lines.{Line, empty_line, line_of, over_line, with_texts}
+use Rattle.rt_hub.specs.Hubs.{waits_for}
+use Rattle.rt_hub.specs.Lines.{Line, bytes_in_all, empty_line, line_of, over_line, with_texts}
 
 abbrev pub small : Bounds
 small = record { messages = 2; bytes = 5 }
@@ -51,3 +52,11 @@ NumbersCount =
     (line_of (Some empty_line ∷ None ∷ []) 0 ≡ None)
     × (line_of (Some empty_line ∷ None ∷ []) 1 ≡ Some empty_line)
     × (line_of (Some empty_line ∷ None ∷ []) 2 ≡ None) × (line_of (Some empty_line ∷ None ∷ []) 3 ≡ None)
+
+-- what waits is counted for all, and for each with what is elsewhere
+abbrev pub BytesCount : Type 0
+BytesCount =
+    (bytes_in_all (holding (a ∷ bcde ∷ []) ∷ None ∷ holding (a ∷ []) ∷ []) ≡ 6)
+    × (waits_for (holding (a ∷ bcde ∷ []) ∷ []) (2 ∷ 9 ∷ []) 1 ≡ 7)
+    × (waits_for (holding (a ∷ bcde ∷ []) ∷ []) (2 ∷ 9 ∷ []) 2 ≡ 9)
+    × (waits_for (holding (a ∷ bcde ∷ []) ∷ []) (2 ∷ 9 ∷ []) 3 ≡ 0)

@@ -11,7 +11,7 @@ pub returns-in-Some-clause-done : goal.returns-in-Some-clause-done
 returns-in-Some-clause-done c =
     on_ok c.refuse.result
     (λ put.
-    refuses c.args.bounds c.args.peer.now c.args.lines.now.items c.refuse.new.lines.items c.args.connection
+    refuses c.args.bounds c.args.peer.now c.args.lines.now c.refuse.new.lines c.args.connection
     c.in-Some.id c.args.message c.requires.lined
     (surplus_is c.args.peer.now c.args.connection c.args.message c.surplus.result (Some c.in-Some.id)
     c.surplus.ensures c.in-Some.is) put)

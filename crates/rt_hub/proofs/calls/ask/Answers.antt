@@ -11,7 +11,7 @@ pub returns-clause-done : goal.returns-clause-done
 returns-clause-done c =
     on_ok c.send_judged.result
     (λ put.
-    took c.args.bounds c.args.peer.now c.message.new.self c.args.lines.now.items c.send_judged.new.lines.items
+    took c.args.bounds c.args.peer.now c.message.new.self c.args.lines.now c.send_judged.new.lines
     c.args.connection c.args.message c.in-Ok.sent.items c.as_slice.result.now c.as_slice.ensures.value
     c.requires.lined c.requires.known c.requires.room c.in-Ok.ensures.answered c.in-Ok.ensures.kept put)
     c.send_judged.ensures.put

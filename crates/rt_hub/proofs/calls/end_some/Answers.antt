@@ -3,8 +3,8 @@ use Rattle.rt_hub.proofs.calls.end_some.Goals as goal
 
 pub returns-clause-done : goal.returns-clause-done
 returns-clause-done c =
-    turns c.args.bounds c.args.peer.now c.end_some.new.self c.args.lines.now.items c.leave_line.new.lines.items
-    c.send.new.lines.items c.args.connection c.args.most c.in-Ok.turn.1 c.in-Ok.turn.0.items
+    turns c.args.bounds c.args.peer.now c.end_some.new.self c.args.lines.now c.leave_line.new.self
+    c.send.new.lines c.args.connection c.args.most c.in-Ok.turn.1 c.in-Ok.turn.0.items
     c.as_slice.result.now c.as_slice.ensures.value c.requires.lined c.requires.known c.in-Ok.ensures.sent
     c.in-Ok.ensures.last c.in-Ok.ensures.kept c.leave_line.ensures c.in_ok-told.ensures.put
 
