@@ -15,6 +15,7 @@ import refusing
 import serving
 import streams
 import talking
+import waiting
 import watching
 import workspaces
 from parts import Clock, part, some_of
@@ -41,6 +42,7 @@ def sockets_parts(copy):
     sockets_part("serve: {} connections", serving.wrong_of, programs)
     sockets_part("serve, a million messages: {} connections", many.wrong_of, programs)
     sockets_part("connect: {} runs", connecting.wrong_of, programs)
+    sockets_part("connect: {} runs before servers that say nothing", waiting.wrong_of, programs)
     sockets_part("watch: {} runs", watching.wrong_of, programs)
     with tempfile.TemporaryDirectory(prefix="kaltewi-cut-") as room:
         sockets_part("serve, streams to the byte: {} connections", streams.wrong_of, programs, room)

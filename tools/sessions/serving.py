@@ -46,6 +46,28 @@ def no_handshake(port):
     yield from two_clients(port)
 
 
+HEAD = b"GET / HTTP/1.1\r\nHost: 127.0.0.1\r\nUpgrade: websocket\r\nConnection: Upgrade\r\nSec-WebSocket-Version: 13\r\n"
+KEY = b"Sec-WebSocket-Key: dGhlIHNhbXBsZSBub25jZQ==\r\n"
+# pages of other machines, and a page that hides its origin; two origins at once; and pages of this machine
+OTHERS = [[b"http://evil.example"], [b"null"], [b"http://localhost.evil.example"], [b"http://localhost", b"http://localhost"]]
+OWN = [[b"http://localhost:3000"], [b"https://127.0.0.1"]]
+
+
+def answer_to(port, origins):
+    """The status that a handshake of a page is answered with."""
+    with socket.create_connection(("127.0.0.1", port), timeout=SECONDS) as it:
+        it.sendall(HEAD + KEY + b"".join(b"Origin: " + origin + b"\r\n" for origin in origins) + b"\r\n")
+        return it.makefile("rb").readline().split(b" ")[1]
+
+
+def other_pages(port):
+    """A page of another machine may not connect, and is no client; a page of this machine is one."""
+    for origins in OTHERS:
+        yield f"a page of {origins}", answer_to(port, origins), b"403"
+    for origins in OWN:
+        yield f"a page of {origins}", answer_to(port, origins), b"101"
+
+
 def strays(port):
     """What is no message of a client is passed over, and a close is answered with its code."""
     client = Client(port)
@@ -137,6 +159,7 @@ TOLD = {
         "connection 1: a binary message is passed over: 1 NotJson",
         "connection 1 ends: the client closed it with 4000",
     ],
+    other_pages: ["a stream is no WebSocket: HTTP error: 403 Forbidden"] * len(OTHERS) + [BEGINS, "connection 1 ends: .."] * len(OWN),
     versions: [BEGINS, CLOSED_IT, BEGINS, CLOSED_IT],
     breaks: [line for _, code in BROKEN.values() for line in (BEGINS, f"connection 1 ends: ..; it is closed with {code}")],
 }
@@ -182,8 +205,9 @@ def wrong_of(programs):
         wrong.append(session(program, 2, [], two_clients))
         wrong.append(session(program, 1, ["--tree", '{"a":{"b":1}}', "--deny", "/s"], denied_client))
         wrong.append(session(program, 2, [], no_handshake))
+        wrong.append(session(program, len(OWN), [], other_pages))
         wrong.append(session(program, 1, [], strays))
         wrong.append(session(program, 2, [], versions))
         wrong.append(session(program, len(BROKEN), [], breaks))
         wrong.append(taken_port(program))
-    return [it for it in wrong if it], (10 + len(BROKEN)) * len(programs)
+    return [it for it in wrong if it], (10 + len(OTHERS) + len(OWN) + len(BROKEN)) * len(programs)

@@ -1,24 +1,21 @@
 -- What is printed of a client that is behind a lock, and what is sent for it.
 use Rattle.std.proofs.Common.{◌≡◌, ◌++◌, ℕ, List, Option, Some, None, Result, Ok, Err}
-use Rattle.std.proofs.Common.{inl, inr, refl, sym, ap, subst, ◌∙◌, append_assoc, string_bytes}
-use Rattle.std.specs.Prelude.{OnOk, IfOk, IfErr, IfSome, String, Bool, if◌then◌else◌, is_some}
+use Rattle.std.proofs.Common.{refl, sym, ap, subst, ◌∙◌, append_assoc, string_bytes}
+use Rattle.std.specs.Prelude.{OnOk, IfOk, IfSome, String, Bool, if◌then◌else◌, is_some}
 use Rattle.std.specs.declared.alloc.Global.{Global}
-use Rattle.tungstenite.specs.Socket.{Socket}
-use Rattle.rt_input.specs.Counted.{CountedStream}
-use Rattle.rt_input.specs.declared.counted.TheConstants.{MAX_MESSAGE_BYTES}
+use Rattle.rt_socket.specs.declared.lost.Lost.{Lost as SocketLost}
 use Rattle.rt_world.specs.declared.step.Step.TheVariants.{Connected, Disconnected}
 use Rattle.rt_client.specs.Calls.{Locked}
 use Rattle.rt_lines.specs.inside.Appending.{Appends}
 use Rattle.rt_drive.specs.declared.lost.Lost.{Lost}
-use Rattle.rt_drive.specs.declared.socket.Heard.{Heard}
-use Rattle.rt_drive.specs.declared.socket.Heard.TheVariants as heard
-use Rattle.rt_drive.specs.declared.socket.Told.{Told}
-use Rattle.rt_drive.specs.Ahead.{nothing_ahead}
+use Rattle.rt_drive.specs.declared.heard.Heard.{Heard}
+use Rattle.rt_drive.specs.declared.heard.Heard.TheVariants as heard
+use Rattle.rt_drive.specs.declared.heard.Told.{Told}
 use Rattle.rt_drive.specs.Doing.{Seats, disconnected}
-use Rattle.rt_drive.specs.Driving.{Begins, HasSent, PrintsHeard, PrintsLost, PrintsNone, PrintsStep}
+use Rattle.rt_drive.specs.Driving.{HasSent, PrintsHeard, PrintsLost, PrintsStep}
 use Rattle.rt_drive.specs.Driving.{PrintsTaken, PrintsTold, goes_on}
-use Rattle.rt_drive.specs.Opening.{IsOpened}
-use Rattle.rt_drive.specs.Sending.{Linked, linked}
+use Rattle.rt_drive.specs.Ending.{end_text}
+use Rattle.rt_drive.specs.Sending.{Linked}
 
 -- what is so of the value that was behind the lock is so of some
 pub at_some_time : {A E : Type 0} (P : List ℕ → Type 0) (Q : Locked → Locked → List ℕ → Type 0)
@@ -64,8 +61,8 @@ ended_text o n h why seats is (text, more, lost) =
     (text, more, subst (λ x. PrintsHeard x seats text) (sym is) lost)
 
 -- all that waited was sent, and nothing is printed of that
-stood : {S A E L : Type 0} (C : CountedStream S → Option (List ℕ)) (r : Result A E) (new : Option L)
-    (at : L → Linked S) (first : Linked S) (o m n : String Global) (why : List ℕ) → Appends o m why
+stood : {W A E L : Type 0} (C : W → List ℕ → Option SocketLost → W → Type 0) (r : Result A E) (new : Option L)
+    (at : L → Linked W) (first : Linked W) (o m n : String Global) (why : List ℕ) → Appends o m why
     → PrintsStep Connected why → OnOk r (IfSome new (λ y. HasSent C first (at y) × (n ≡ m)))
     → OnOk r (IfSome new (λ y. HasSent C first (at y) × (text : List ℕ) × Appends o n text
     × PrintsStep Connected text))
@@ -73,8 +70,8 @@ stood C (Ok v) None at first o m n why told step h = tt
 stood C (Ok v) (Some y) at first o m n why told step h = (h.0, why, ap string_bytes h.1 ∙ told, step)
 stood C (Err e) new at first o m n why told step h = tt
 
-pub began : {S A E L : Type 0} (C : CountedStream S → Option (List ℕ)) (r : Result A E) (mid new : Option L)
-    (l : L) (at : L → Linked S) (first : Linked S) (o m n : String Global) (why : List ℕ)
+pub began : {W A E L : Type 0} (C : W → List ℕ → Option SocketLost → W → Type 0) (r : Result A E)
+    (mid new : Option L) (l : L) (at : L → Linked W) (first : Linked W) (o m n : String Global) (why : List ℕ)
     → mid ≡ Some l → at l ≡ first → Appends o m why → PrintsStep Connected why
     → IfSome mid (λ x. OnOk r (IfSome new (λ y. HasSent C (at x) (at y) × (n ≡ m))))
     → OnOk r (IfSome new (λ y. HasSent C first (at y) × (text : List ℕ) × Appends o n text
@@ -108,38 +105,6 @@ lost_at_once r mid new l o m n why seats now is same first step h =
     gone r new o m n why seats now same first step
     (subst (λ o. IfSome o (λ x. OnOk r (new ≡ None → (text : List ℕ) × (n ≡ m ++ text) × PrintsLost now text))) is h)
 
-no_some : {L : Type 0} (y : L) → Some y ≡ None → ⊥
-no_some y e = cc
-
--- what came of a handshake stands
-pub opened_stands : {S A E L F : Type 0} (C : CountedStream S → Option (List ℕ)) (r : Result A E)
-    (new : Option L) (at : L → Linked S) (opened : Result (Socket (CountedStream S)) F) (o n : String Global)
-    → IfOk opened (IsOpened MAX_MESSAGE_BYTES)
-    → IfOk opened (λ s. OnOk r (IfSome new (λ y. HasSent C (linked s nothing_ahead) (at y) × (text : List ℕ)
-    × Appends o n text × PrintsStep Connected text)))
-    → IfErr opened (λ _. OnOk r (new ≡ None))
-    → OnOk r (IfSome new (λ y. Begins C (at y) × (text : List ℕ) × Appends o n text
-    × PrintsStep Connected text))
-opened_stands C (Ok v) None at opened o n is sent none = tt
-opened_stands C (Ok v) (Some y) at (Ok s) o n is sent none = ((s, is, sent.0), sent.1, sent.2, sent.3)
-opened_stands C (Ok v) (Some y) at (Err e) o n is sent none = absurd (no_some y none)
-opened_stands C (Err e) new at opened o n is sent none = tt
-
--- or it does not
-pub opened_none : {A E L M F : Type 0} (r : Result A E) (new : Option L) (opened : Result M F) (o n : List ℕ)
-    (seats : Seats)
-    → IfOk opened (λ _. OnOk r (new ≡ None → (why text : List ℕ) × (n ≡ o ++ (why ++ text))
-    × PrintsStep Connected why × PrintsLost seats text))
-    → IfErr opened (λ _. OnOk r (n ≡ o ++ disconnected))
-    → OnOk r (new ≡ None → (text : List ℕ) × (n ≡ o ++ text) × PrintsNone seats text)
-opened_none (Ok v) new (Ok s) o n seats lost none = λ e. (
-  (lost e).0 ++ (lost e).1,
-  (lost e).2,
-  inr ((lost e).0, (lost e).1, (lost e).3, (lost e).4, refl),
-)
-opened_none (Ok v) new (Err f) o n seats lost none = λ e. (disconnected, none, inl refl)
-opened_none (Err e) new opened o n seats lost none = tt
-
 -- a connection stands where what was heard is no end
 pub stands_so : {E L : Type 0} (r : Result Bool E) (h : Heard) (old new : Option L) (l : L) → old ≡ Some l
     → IfOk r (λ s. s ≡ goes_on h) → OnOk r (new ≡ (if goes_on h then old else None))
@@ -148,8 +113,13 @@ stands_so (Ok s) (heard.Told told) old new l is stands left = stands ∙ sym (ap
 stands_so (Ok s) (heard.Ended why) old new l is stands left = stands ∙ sym (ap is_some left)
 stands_so (Err e) h old new l is stands left = tt
 
--- what is so is so where a result is one
-pub told_if : {A E L : Type 0} (r : Result A E) (o : Option L) (P : Type 0) → P → OnOk r (IfSome o (λ _. P))
-told_if (Ok v) None P h = tt
-told_if (Ok v) (Some x) P h = h
-told_if (Err e) o P h = tt
+-- what is so of how a connection ended, where a result is one, and of what is printed of it
+pub ended_so : {A E L : Type 0} (r : Result A E) (o : Option L) (why : Lost) (P : Lost → Type 0)
+    (a m n text : List ℕ) → P why → m ≡ a ++ text → PrintsStep Disconnected text
+    → OnOk r (n ≡ m ++ end_text why)
+    → OnOk r (IfSome o (λ _. (why : Lost) × P why × (text : List ℕ) × (n ≡ a ++ (text ++ end_text why))
+    × PrintsStep Disconnected text))
+ended_so (Ok v) None why P a m n text so first step h = tt
+ended_so (Ok v) (Some x) why P a m n text so first step h =
+    (why, so, text, both a m n text (end_text why) first h, step)
+ended_so (Err e) o why P a m n text so first step h = tt

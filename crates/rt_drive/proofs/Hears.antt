@@ -1,81 +1,67 @@
--- What is heard of the socket, read by read.
-use Rattle.std.proofs.Common.{◌≡◌, ℕ, zero, suc, ◌+◌, ◌-◌, ◌<◌, ◌++◌, ◌∷◌, [], List, length, arith}
-use Rattle.std.proofs.Common.{Option, Some, None, Result, Ok, Err, refl, sym, subst}
-use Rattle.std.specs.Prelude.{IfOk}
-use Rattle.std.specs.declared.alloc.AllocError.{AllocError}
-use Rattle.std.proofs.lemmas.List.{length-append}
-use Rattle.tungstenite.specs.Socket.{Reads, Socket}
-use Rattle.tungstenite.specs.declared.error.Error.{Error}
-use Rattle.tungstenite.specs.declared.message.Message.{Message}
+-- What is heard of a server, message by message.
+use Rattle.std.proofs.Common.{◌≡◌, ℕ, zero, suc, ◌+◌, ◌-◌, ◌<◌, arith, Option, Some, None, refl, sym, subst}
+use Rattle.rt_socket.specs.declared.wire.Heard.{Heard as SocketHeard}
 use Rattle.rt_drive.specs.declared.lost.Lost.TheVariants.{Pings}
-use Rattle.rt_drive.specs.declared.socket.Heard.{Heard}
-use Rattle.rt_drive.specs.declared.socket.Heard.TheVariants.{Ended}
-use Rattle.rt_drive.specs.Hearing.{AnswersIf, Hears, HearsAfter, HearsLast, Known, PassesPings, heard_from}
-use Rattle.rt_drive.specs.Hearing.{is_close}
-
--- a read, and what it says
-pub hears_ok : {S : Type 0} (k : Known S) (old mid new : Socket S) (read : Result Message Error)
-    (r : Result (Option Heard) AllocError) → r ≡ heard_from read → Reads k.input old mid read
-    → AnswersIf (is_close read) k.output mid new → IfOk r (λ heard. Hears k old heard new)
-hears_ok k old mid new read (Ok heard) is reads answers = record {
-  read = read;
-  mid = mid;
-  reads = reads;
-  says = sym is;
-  answers = answers;
-}
-hears_ok k old mid new read (Err e) is reads answers = tt
-
--- one more is passed over
-passed_more : {S : Type 0} (k : Known S) (a b c : Socket S) (passed : List (Socket S)) → PassesPings k a passed b
-    → Hears k b None c → PassesPings k a (passed ++ c ∷ []) c
-passed_more k a b c [] is h = (subst (λ x. Hears k x None c) is h, refl)
-passed_more k a b c (m ∷ passed) p h = (p.0, passed_more k m b c passed p.1 h)
+use Rattle.rt_drive.specs.declared.heard.Heard.{Heard}
+use Rattle.rt_drive.specs.declared.heard.Heard.TheVariants.{Ended}
+use Rattle.rt_drive.specs.Hearing.{Hears, HearsAfter, HearsLast, Passes, told_of}
 
 -- so far pings and pongs were passed over, and so many may still come
-abbrev pub IsPassing : {S : Type 0} → Known S → ℕ → Socket S → ℕ → Socket S → Type 0
-IsPassing k pings old left now =
-    (passed : List (Socket _)) × PassesPings k old passed now × (length passed + left ≡ pings)
+abbrev pub IsPassing : {W : Type 0} → (W → SocketHeard → W → Type 0) → ℕ → W → ℕ → W → Type 0
+IsPassing hears pings old left now = (count : ℕ) × Passes hears count old now × (count + left ≡ pings)
 
 none_yet : (n : ℕ) → 0 + n ≡ n
 none_yet n = omega arith
 
-pub passing_none : {S : Type 0} (k : Known S) (pings : ℕ) (old : Socket S) → IsPassing k pings old pings old
-passing_none k pings old = ([], refl, none_yet pings)
+one_fewer : (count left pings : ℕ) → count + left ≡ pings → 0 < left → suc count + (left - 1) ≡ pings
+one_fewer count left pings is pos = omega (arith, is, pos)
 
-pub passing_more : {S : Type 0} (k : Known S) (pings left : ℕ) (old now next : Socket S)
-    → IsPassing k pings old left now → 0 < left → Hears k now None next
-    → IsPassing k pings old (left - 1) next
-passing_more k pings left old now next p pos h =
-    let long : length (p.0 ++ next ∷ []) ≡ length p.0 + 1 = length-append p.0 (next ∷ []) in
-    let was : length p.0 + left ≡ pings = p.2 in
-    (p.0 ++ next ∷ [], passed_more k old now next p.0 p.1 h, omega (arith, long, was, pos))
+pub passing_none : {W : Type 0} (hears : W → SocketHeard → W → Type 0) (pings : ℕ) (old : W)
+    → IsPassing hears pings old pings old
+passing_none hears pings old = (0, refl, none_yet pings)
 
-last_heard : {S : Type 0} (k : Known S) (old new : Socket S) (left : ℕ) (heard : Heard) → 0 < left
-    → Hears k old (Some heard) new → HearsLast k old heard left new
-last_heard k old new zero heard pos h = absurd (omega (arith, pos))
-last_heard k old new (suc left) heard pos h = h
+-- what was given says that
+says : {W : Type 0} (hears : W → SocketHeard → W → Type 0) (old new : W) (given : SocketHeard)
+    (told heard : Option Heard) → hears old given new → told ≡ told_of given → told ≡ heard
+    → Hears hears old heard new
+says hears old new given told heard h told_is is =
+    record { given = given; comes = h; says = subst (λ x. x ≡ heard) told_is is }
+
+pub passing_more : {W : Type 0} (hears : W → SocketHeard → W → Type 0) (pings left : ℕ) (old now next : W)
+    (given : SocketHeard) (told : Option Heard) → IsPassing hears pings old left now → 0 < left
+    → hears now given next → told ≡ told_of given → told ≡ None → IsPassing hears pings old (left - 1) next
+passing_more hears pings left old now next given told (count, passes, counted) pos h told_is is = (
+  suc count,
+  (now, passes, says hears now next given told None h told_is is),
+  one_fewer count left pings counted pos,
+)
+
+last_heard : {W : Type 0} (hears : W → SocketHeard → W → Type 0) (old new : W) (left : ℕ) (heard : Heard)
+    → 0 < left → Hears hears old (Some heard) new → HearsLast hears old heard left new
+last_heard hears old new zero heard pos h = absurd (omega (arith, pos))
+last_heard hears old new (suc left) heard pos h = h
 
 -- that is heard
-pub heard_now : {S : Type 0} (k : Known S) (pings left : ℕ) (old now new : Socket S) (heard : Heard)
-    → IsPassing k pings old left now → 0 < left → Hears k now (Some heard) new
-    → HearsAfter k pings old heard left new
-heard_now k pings left old now new heard p pos h = record {
-  passed = p.0;
+pub heard_now : {W : Type 0} (hears : W → SocketHeard → W → Type 0) (pings left : ℕ) (old now new : W)
+    (given : SocketHeard) (told : Option Heard) (heard : Heard) → IsPassing hears pings old left now → 0 < left
+    → hears now given new → told ≡ told_of given → told ≡ Some heard
+    → HearsAfter hears pings old heard left new
+heard_now hears pings left old now new given told heard (count, passes, counted) pos h told_is is = record {
+  count = count;
   mid = now;
-  passes = p.1;
-  counted = p.2;
-  last = last_heard k now new left heard pos h;
+  passes = passes;
+  counted = counted;
+  last = last_heard hears now new left heard pos (says hears now new given told (Some heard) h told_is is);
 }
 
 -- as many came as may
-pub heard_none : {S : Type 0} (k : Known S) (pings left : ℕ) (old now : Socket S)
-    → IsPassing k pings old left now → left ≡ 0 → HearsAfter k pings old (Ended Pings) left now
-heard_none k pings left old now p none =
-    let here : HearsLast k now (Ended Pings) 0 now = (refl, refl) in record {
-      passed = p.0;
+pub heard_none : {W : Type 0} (hears : W → SocketHeard → W → Type 0) (pings left : ℕ) (old now : W)
+    → IsPassing hears pings old left now → left ≡ 0 → HearsAfter hears pings old (Ended Pings) left now
+heard_none hears pings left old now (count, passes, counted) none =
+    let here : HearsLast hears now (Ended Pings) 0 now = (refl, refl) in record {
+      count = count;
       mid = now;
-      passes = p.1;
-      counted = p.2;
-      last = subst (λ n. HearsLast k now (Ended Pings) n now) (sym none) here;
+      passes = passes;
+      counted = counted;
+      last = subst (λ n. HearsLast hears now (Ended Pings) n now) (sym none) here;
     }

@@ -1,18 +1,19 @@
 -- A socket that a handshake gave.
-use Rattle.std.proofs.Common.{◌≡◌, ℕ, List, [], false, Some, refl, ap, ◌∙◌}
-use Rattle.tungstenite.specs.Config.{HasLimits}
+use Rattle.std.proofs.Common.{◌≡◌, ℕ, List, Option, Result, Ok, Err, refl, ap, ◌∙◌}
+use Rattle.std.specs.Prelude.{Bool, IfOk}
+use Rattle.tungstenite.specs.Config.{HasLimits, HasLimitsOf}
 use Rattle.tungstenite.specs.Heads.{Connected}
 use Rattle.tungstenite.specs.Socket.{Socket}
 use Rattle.tungstenite.specs.declared.protocol.WebSocketConfig.{WebSocketConfig}
+use Rattle.rt_socket.specs.Sockets.{limits_for}
 use Rattle.rt_drive.specs.Opening.{IsOpened}
 
 -- its limits are set
 pub opened_by : {S : Type 0} (old new : Socket S) (most : ℕ) (config : WebSocketConfig)
     → ((key : List ℕ) × Connected key old)
     → new ≡ record old { conn = record (old.conn) { config = new.conn.config } }
-    → HasLimits new.conn.config config → config.max_message_size ≡ Some most
-    → config.max_frame_size ≡ Some most → config.accept_unmasked_frames ≡ false → IsOpened most new
-opened_by {S} old new most config (key, (answer, (stream, fresh))) same limits message frame masked = record {
+    → HasLimits new.conn.config config → config ≡ limits_for most → IsOpened most new
+opened_by {S} old new most config (key, (answer, (stream, fresh))) same limits is = record {
   key = key;
   connected = (
     answer,
@@ -28,7 +29,15 @@ opened_by {S} old new most config (key, (answer, (stream, fresh))) same limits m
       },
     ),
   );
-  message = limits.0 ∙ message;
-  frame = limits.1 ∙ frame;
-  masked = limits.2 ∙ masked;
+  message = limits.0 ∙ ap (λ (c : WebSocketConfig). c.max_message_size) is;
+  frame = limits.1 ∙ ap (λ (c : WebSocketConfig). c.max_frame_size) is;
+  masked = limits.2 ∙ ap (λ (c : WebSocketConfig). c.accept_unmasked_frames) is;
 }
+
+-- a handshake that goes on may give one
+pub connected_by : {S A E : Type 0} (all : List ℕ × Option WebSocketConfig) (shaken : Result (Socket S × A) E)
+    → IfOk shaken (λ f. (r : List ℕ × Bool × Option WebSocketConfig)
+    × (Connected r.0 f.0 × HasLimitsOf f.0.conn.config r.2) × ((r.0, r.2) ≡ all))
+    → IfOk shaken (λ f. (key : List ℕ) × Connected key f.0)
+connected_by all (Ok f) h = (h.0.0, h.1.0)
+connected_by all (Err e) h = tt

@@ -15,8 +15,8 @@ use Rattle.rt_lines.specs.Printing as lines
 use Rattle.rt_lines.specs.declared.error.Refusal.TheVariants.{Wire}
 use Rattle.rt_lines.specs.declared.order.Order.{Order}
 use Rattle.rt_lines.specs.declared.order.Order.TheVariants as kinds
-use Rattle.rt_drive.specs.declared.socket.Told.{Told}
-use Rattle.rt_drive.specs.declared.socket.Told.TheVariants.{Text, Binary}
+use Rattle.rt_drive.specs.declared.heard.Told.{Told}
+use Rattle.rt_drive.specs.declared.heard.Told.TheVariants.{Text, Binary}
 use Rattle.rt_drive.specs.Doing.{Calls, CallsSeat, ClosesAt, ClosesSeat, IsCalled, IsClosed, Obeys, Seats}
 use Rattle.rt_drive.specs.Doing.{Shows, TakesTold, open_in, seat_at}
 use Rattle.rt_drive.specs.Printing.{refusal_text}

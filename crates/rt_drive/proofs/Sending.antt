@@ -1,13 +1,10 @@
 -- What is read ahead and sent, step by step.
 use Rattle.std.proofs.Common.{◌≡◌, ℕ, ◌+◌, ◌<◌, ◌≤◌, List, [], ◌∷◌, ◌++◌, length, drop, get_or, true, false}
-use Rattle.std.proofs.Common.{Option, refl, sym, ap, subst, ◌∙◌}
+use Rattle.std.proofs.Common.{Option, None, refl, sym, ap, subst, ◌∙◌}
 use Rattle.std.proofs.lemmas.List.{drop_all, drop_more}
-use Rattle.tungstenite.specs.Connection.{write_step}
-use Rattle.tungstenite.specs.Content.{text}
-use Rattle.tungstenite.specs.Socket.{Writes}
-use Rattle.rt_input.specs.Counted.{CountedStream}
+use Rattle.rt_socket.specs.declared.lost.Lost.{Lost}
 use Rattle.rt_wire.specs.declared.client.ClientMessage.{ClientMessage}
-use Rattle.rt_drive.specs.declared.socket.Told.{Told}
+use Rattle.rt_drive.specs.declared.heard.Told.{Told}
 use Rattle.rt_drive.specs.Ahead.{ReadAhead, has_way, noted_of, with_kept, with_sent}
 use Rattle.rt_drive.specs.Sending.{Awaits, Linked, MakesWay, Sends, SendsAll, text_of}
 
@@ -38,7 +35,7 @@ came_more len a b c t h is =
     (h.0 ++ t ∷ [], awaits_more len a b c h.0 t h.1 h.2 is, some_came h.0 t)
 
 -- then there is way
-pub made_way : {S : Type 0} (len : ℕ) (old new : Linked S) → HasCome len old.ahead new.ahead
+pub made_way : {W : Type 0} (len : ℕ) (old new : Linked W) → HasCome len old.ahead new.ahead
     → has_way len new.ahead ≡ true → MakesWay len old new
 made_way len old new h way = record {
   came = h.0;
@@ -48,34 +45,32 @@ made_way len old new h way = record {
 }
 
 -- there is way at once
-pub way_at_once : {S : Type 0} (len : ℕ) (old : Linked S) → has_way len old.ahead ≡ true → MakesWay len old old
+pub way_at_once : {W : Type 0} (len : ℕ) (old : Linked W) → has_way len old.ahead ≡ true → MakesWay len old old
 way_at_once len old way = record { came = []; awaits = refl; way = way; still = λ _. refl }
 
 -- one message is sent
-pub sent_one : {S : Type 0} (C : CountedStream S → Option (List ℕ)) (old ready new : Linked S)
-    (m : ClientMessage) (len : ℕ) (words : List ℕ) → words ≡ text_of m → len ≡ length words
-    → MakesWay len old ready
-    → Writes C ready.socket new.socket (write_step ready.socket.conn (text words))
-    → new.socket.output ≡ [] → new.ahead ≡ with_sent m len ready.ahead → Sends C old m new
-sent_one C old ready new m len words is size way wrote none_waits noted =
+pub sent_one : {W : Type 0} (sends : W → List ℕ → Option Lost → W → Type 0) (old ready new : Linked W)
+    (m : ClientMessage) (len : ℕ) (words : List ℕ) (lost : Option Lost) → words ≡ text_of m → len ≡ length words
+    → MakesWay len old ready → sends ready.wire words lost new.wire → lost ≡ None
+    → new.ahead ≡ with_sent m len ready.ahead → Sends sends old m new
+sent_one sends old ready new m len words lost is size way sent none noted =
     let long : len ≡ length (text_of m) = size ∙ ap length is in record {
       ready = ready;
       way = subst (λ n. MakesWay n old ready) long way;
-      wrote =
-          subst (λ t. Writes C ready.socket new.socket (write_step ready.socket.conn (text t))) is wrote;
-      none_waits = none_waits;
+      sent = subst (λ l. sends ready.wire (text_of m) l new.wire) none
+          (subst (λ t. sends ready.wire t lost new.wire) is sent);
       noted = subst (λ n. new.ahead ≡ with_sent m n ready.ahead) long noted;
     }
 
 -- one message more
-pub send_more : {S : Type 0} (C : CountedStream S → Option (List ℕ)) (old mid last : Linked S)
+pub send_more : {W : Type 0} (sends : W → List ℕ → Option Lost → W → Type 0) (old mid last : Linked W)
     (ms : List ClientMessage) (i : ℕ) (m : ClientMessage) → i < length ms → m ≡ get_or ms i m
-    → Sends C old m mid → SendsAll C mid (drop (i + 1) ms) last → SendsAll C old (drop i ms) last
-send_more C old mid last ms i m lt at s h =
-    subst (λ xs. SendsAll C old xs last)
+    → Sends sends old m mid → SendsAll sends mid (drop (i + 1) ms) last → SendsAll sends old (drop i ms) last
+send_more sends old mid last ms i m lt at s h =
+    subst (λ xs. SendsAll sends old xs last)
     (ap (λ y. y ∷ drop (i + 1) ms) at ∙ sym (drop_more ms i m lt)) (mid, s, h)
 
 -- none is left
-pub sent_all : {S : Type 0} (C : CountedStream S → Option (List ℕ)) (old : Linked S) (ms : List ClientMessage)
-    (i : ℕ) → length ms ≤ i → SendsAll C old (drop i ms) old
-sent_all C old ms i le = subst (λ xs. SendsAll C old xs old) (sym (drop_all i ms le)) refl
+pub sent_all : {W : Type 0} (sends : W → List ℕ → Option Lost → W → Type 0) (old : Linked W)
+    (ms : List ClientMessage) (i : ℕ) → length ms ≤ i → SendsAll sends old (drop i ms) old
+sent_all sends old ms i le = subst (λ xs. SendsAll sends old xs old) (sym (drop_all i ms le)) refl

@@ -11,11 +11,11 @@ use Rattle.rt_drive.specs.declared.ahead.Due.{Due}
 use Rattle.rt_drive.specs.declared.ahead.Name.{Name}
 use Rattle.rt_drive.specs.declared.ahead.Name.TheVariants.{Request, Listen}
 use Rattle.rt_drive.specs.declared.ahead.TheConstants.{COST, MAX_KEPT_BYTES, MAX_UNANSWERED_BYTES}
-use Rattle.rt_drive.specs.declared.socket.Heard.{Heard}
-use Rattle.rt_drive.specs.declared.socket.Heard.TheVariants.{Ended}
-use Rattle.rt_drive.specs.declared.socket.Heard.TheVariants as heard
-use Rattle.rt_drive.specs.declared.socket.Told.{Told}
-use Rattle.rt_drive.specs.declared.socket.Told.TheVariants.{Text, Binary}
+use Rattle.rt_drive.specs.declared.heard.Heard.{Heard}
+use Rattle.rt_drive.specs.declared.heard.Heard.TheVariants.{Ended}
+use Rattle.rt_drive.specs.declared.heard.Heard.TheVariants as heard
+use Rattle.rt_drive.specs.declared.heard.Told.{Told}
+use Rattle.rt_drive.specs.declared.heard.Told.TheVariants.{Text, Binary}
 use Rattle.rt_drive.specs.Answers.{answer_to, answered_by}
 
 -- which messages are still to be answered, in the order in which they were sent, each with how many bytes

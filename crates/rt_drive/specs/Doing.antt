@@ -21,8 +21,8 @@ use Rattle.rt_lines.specs.declared.order.Order.{Order}
 use Rattle.rt_lines.specs.declared.order.Order.TheVariants as order
 use Rattle.rt_wire.specs.declared.error.WireError.TheVariants.{NotJson}
 use Rattle.rt_wire.specs.Server.{server_message}
-use Rattle.rt_drive.specs.declared.socket.Told.{Told}
-use Rattle.rt_drive.specs.declared.socket.Told.TheVariants.{Text, Binary}
+use Rattle.rt_drive.specs.declared.heard.Told.{Told}
+use Rattle.rt_drive.specs.declared.heard.Told.TheVariants.{Text, Binary}
 use Rattle.rt_drive.specs.Printing.{refusal_text}
 use Rattle.rt_drive.specs.Taking.{Takes}
 

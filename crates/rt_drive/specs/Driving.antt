@@ -1,21 +1,17 @@
 -- What is printed of a client that is behind a lock. Of what a lock holds nothing is known beforehand: each
 -- relation holds of some client.
-use Rattle.std.specs.Prelude.{◌≡◌, ◌⊎◌, ℕ, Bool, true, false, List, ◌++◌, Option}
-use Rattle.tungstenite.specs.Socket.{Socket}
-use Rattle.rt_input.specs.Counted.{CountedStream}
-use Rattle.rt_input.specs.declared.counted.TheConstants.{MAX_MESSAGE_BYTES}
+use Rattle.std.specs.Prelude.{◌≡◌, ℕ, Bool, true, false, List, ◌++◌, Option}
+use Rattle.rt_socket.specs.declared.lost.Lost.{Lost}
 use Rattle.rt_world.specs.declared.step.Step.{Step}
-use Rattle.rt_world.specs.declared.step.Step.TheVariants.{Connected, Disconnected}
+use Rattle.rt_world.specs.declared.step.Step.TheVariants.{Disconnected}
 use Rattle.rt_client.specs.Calls.{Locked}
 use Rattle.rt_lines.specs.declared.order.Order.{Order}
-use Rattle.rt_drive.specs.declared.socket.Heard.{Heard}
-use Rattle.rt_drive.specs.declared.socket.Heard.TheVariants.{Ended}
-use Rattle.rt_drive.specs.declared.socket.Heard.TheVariants as heard
-use Rattle.rt_drive.specs.declared.socket.Told.{Told}
-use Rattle.rt_drive.specs.Ahead.{nothing_ahead}
+use Rattle.rt_drive.specs.declared.heard.Heard.{Heard}
+use Rattle.rt_drive.specs.declared.heard.Heard.TheVariants.{Ended}
+use Rattle.rt_drive.specs.declared.heard.Heard.TheVariants as heard
+use Rattle.rt_drive.specs.declared.heard.Told.{Told}
 use Rattle.rt_drive.specs.Doing.{IsTold, Obeys, Seats, TakesTold, disconnected}
-use Rattle.rt_drive.specs.Opening.{IsOpened}
-use Rattle.rt_drive.specs.Sending.{Linked, SendsAll, linked}
+use Rattle.rt_drive.specs.Sending.{Linked, SendsAll}
 use Rattle.rt_drive.specs.Telling.{TellsAll}
 use Rattle.rt_drive.specs.inside.Waiting.{waiting_of}
 
@@ -45,12 +41,6 @@ PrintsLost seats text =
     (why told : List ℕ) × PrintsStep Disconnected why × PrintsTold seats told
     × (text ≡ (disconnected ++ why) ++ told)
 
--- no connection stands: none came about, or it was lost once the client was told of it
-abbrev pub PrintsNone : Seats → List ℕ → Type 0
-PrintsNone seats text =
-    (text ≡ disconnected)
-    ⊎ ((why lost : List ℕ) × PrintsStep Connected why × PrintsLost seats lost × (text ≡ why ++ lost))
-
 -- whether the connection stands once that was heard
 abbrev pub goes_on : Heard → Bool
 goes_on (heard.Told told) = true
@@ -65,11 +55,5 @@ PrintsHeard (Ended why) seats text = PrintsLost seats text
 -- ---- what is sent
 
 -- all that the client has to send was sent, in order
-abbrev pub HasSent : {S : Type 0} → (CountedStream S → Option (List ℕ)) → Linked S → Linked S → Type 0
-HasSent contents old new = (locked : Locked) × SendsAll contents old (waiting_of locked) new
-
--- a handshake gave the socket, and all that the client has to send was sent over it
-abbrev pub Begins : {S : Type 0} → (CountedStream S → Option (List ℕ)) → Linked S → Type 0
-Begins contents new =
-    (socket : Socket (CountedStream _)) × IsOpened MAX_MESSAGE_BYTES socket
-    × HasSent contents (linked socket nothing_ahead) new
+abbrev pub HasSent : {W : Type 0} → (W → List ℕ → Option Lost → W → Type 0) → Linked W → Linked W → Type 0
+HasSent sends old new = (locked : Locked) × SendsAll sends old (waiting_of locked) new

@@ -1,45 +1,55 @@
 -- How a connection ends that the client ends.
-use Rattle.std.specs.Prelude.{◌≡◌, ◌⊎◌, ◌<◌, ℕ, List, [], ◌∷◌, length, None, Result}
-use Rattle.tungstenite.specs.Connection.{Effect, close_step}
-use Rattle.tungstenite.specs.Failure.{WriteFails}
-use Rattle.tungstenite.specs.Socket.{Socket, Writes}
-use Rattle.websocket.specs.declared.error.Error.{Error as FrameError}
+use Rattle.std.specs.Prelude.{◌≡◌, ◌⊎◌, ◌<◌, ℕ, zero, suc, Bool, true, false, List, [], Option, Some, None}
+use Rattle.std.specs.Prelude.{if◌then◌else◌}
+use Rattle.rt_socket.specs.declared.lost.Lost.{Lost as SocketLost}
+use Rattle.rt_socket.specs.declared.wire.Heard.{Heard as SocketHeard}
+use Rattle.rt_socket.specs.declared.wire.Heard.TheVariants as socket
 use Rattle.rt_drive.specs.declared.lost.Lost.{Lost}
-use Rattle.rt_drive.specs.declared.lost.Lost.TheVariants.{Failed, Kept}
-use Rattle.rt_drive.specs.declared.socket.Heard.TheVariants as heard
-use Rattle.rt_drive.specs.declared.socket.Told.{Told}
-use Rattle.rt_drive.specs.Hearing.{HearsAfter, Known}
+use Rattle.rt_drive.specs.declared.lost.Lost.TheVariants.{Kept, Socket, Unclosed}
+use Rattle.rt_drive.specs.Doing.{disconnected}
 
--- what was to be sent by that step is not sent
-abbrev pub IsUnsent : Result Effect FrameError → Lost → Type 0
-IsUnsent step (Failed e) = WriteFails step e
-IsUnsent step why = ⊥
+-- how it ended, where that was heard: a server of which nothing comes for a moment does not close it
+abbrev pub end_of : SocketHeard → Option Lost
+end_of (socket.Text words) = None
+end_of socket.Binary = None
+end_of socket.Sign = None
+end_of socket.Nothing = Some Unclosed
+end_of (socket.Ended why) = Some (Socket why)
 
--- the client says that it goes: its close goes out
-abbrev pub SaysClose : {S : Type 0} → Known S → Socket S → Socket S → Type 0
-SaysClose k old new = Writes k.output old new (close_step old.conn None) × (new.output ≡ [])
+-- that comes next of a connection, whose own relation that is, and says this
+pub record HearsEnd {W : Type 0} (ends : W → SocketHeard → W → Type 0) (old : W) (why : Option Lost) (new : W)
+    : Type 0 where
+  pub given : SocketHeard
+  pub comes : ends old given new
+  pub says : end_of given ≡ why
 
--- these messages are passed over, in order; so many pings and pongs might come among them, and so many
--- may come then
-abbrev pub Passes : {S : Type 0} → Known S → ℕ → Socket S → List Told → ℕ → Socket S → Type 0
-Passes k pings old [] left new = (left ≡ pings) × (new ≡ old)
-Passes k pings old (told ∷ came) left new =
-    (rest : ℕ) × (mid : Socket _) × HearsAfter k pings old (heard.Told told) rest mid
-    × Passes k rest mid came left new
+-- so much is passed over, one after another
+abbrev pub Passes : {W : Type 0} → (W → SocketHeard → W → Type 0) → ℕ → W → W → Type 0
+Passes ends zero old new = new ≡ old
+Passes ends (suc count) old new = (mid : _) × Passes ends count old mid × HearsEnd ends mid None new
 
--- messages are passed over up to the end, or as many as may be
-pub record PassesOver {S : Type 0} (k : Known S) (most pings : ℕ) (old : Socket S) (why : Lost)
-    (new : Socket S) : Type 0 where
-  pub came : List Told
-  pub left : ℕ
-  pub mid : Socket S
-  pub passes : Passes k pings old came left mid
-  pub ends :
-      ((length came < most) × (rest : ℕ) × HearsAfter k left mid (heard.Ended why) rest new)
-      ⊎ ((length came ≡ most) × (why ≡ Kept) × (new ≡ mid))
+-- it is passed over up to the end, or as much as may be
+pub record PassesOver {W : Type 0} (ends : W → SocketHeard → W → Type 0) (most : ℕ) (old : W) (why : Lost)
+    (new : W) : Type 0 where
+  pub count : ℕ
+  pub mid : W
+  pub passes : Passes ends count old mid
+  pub last :
+      ((count < most) × HearsEnd ends mid (Some why) new)
+      ⊎ ((count ≡ most) × (why ≡ Kept) × (new ≡ mid))
 
 -- the client says that it goes, and passes over what still comes; where it can't say so, that is the end
-abbrev pub Ends : {S : Type 0} → Known S → ℕ → ℕ → Socket S → Lost → Socket S → Type 0
-Ends k most pings old why new =
-    IsUnsent (close_step old.conn None) why
-    ⊎ ((mid : Socket _) × SaysClose k old mid × PassesOver k most pings mid why new)
+abbrev pub Ends : {W : Type 0} → (W → Option SocketLost → W → Type 0) → (W → SocketHeard → W → Type 0) → ℕ → W
+    → Lost → W → Type 0
+Ends leaves ends most old why new =
+    ((lost : SocketLost) × leaves old (Some lost) new × (why ≡ Socket lost))
+    ⊎ ((mid : _) × leaves old None mid × PassesOver ends most mid why new)
+
+-- whether the server did not close it
+abbrev pub is_unclosed : Lost → Bool
+is_unclosed Unclosed = true
+is_unclosed why = false
+
+-- of such an end alone a line is printed
+abbrev pub end_text : Lost → List ℕ
+end_text why = if is_unclosed why then disconnected else []

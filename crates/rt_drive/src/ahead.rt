@@ -7,7 +7,7 @@ ghost use Rattle.rt_drive.specs.Ahead.{all_answered, answered, fits, has_way, is
 ghost use Rattle.rt_drive.specs.Ahead.{nothing_ahead};
 ghost use Rattle.rt_drive.specs.Ahead.{up_to, with_kept, with_sent, without_first};
 
-use crate::socket::Told;
+use crate::heard::Told;
 use rt_wire::{ClientMessage, Part, ServerMessage};
 use std::alloc::{AllocError, Global};
 use std::collections::VecDeque;

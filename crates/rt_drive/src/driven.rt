@@ -1,5 +1,6 @@
 // A client behind a WebSocket, driven by lines.
 ghost use Rattle.std.specs.Prelude.{◌≡◌, ◌+◌, ◌++◌, ◌<◌, ◌≤◌, ◌^◌, ℕ, List, map, Some, None, Ok};
+ghost use Rattle.rt_input.specs.declared.counted.TheConstants.{MAX_MESSAGE_BYTES};
 ghost use Rattle.std.specs.Prelude.{is_some, if◌then◌else◌, IfOk, IfErr, IfSome, OnOk, OnErr};
 ghost use Rattle.std.specs.Io.KnownBytes.{IsAtEnd};
 ghost use Rattle.std.specs.Option.{option_map};
@@ -9,44 +10,48 @@ ghost use Rattle.rt_lines.specs.inside.Appending.{Appends};
 ghost use Rattle.rt_input.specs.Faults.{counts, NoneFailed, Tells, WriteTells};
 ghost use Rattle.rt_input.specs.Lines.{lines_of, most_input};
 ghost use Rattle.rt_lines.specs.Orders.{is_formed, is_good_order, order_of_bytes};
-ghost use Rattle.rt_input.specs.Counted.{known_output};
 ghost use Rattle.rt_drive.specs.Ahead.{nothing_ahead};
 ghost use Rattle.rt_drive.specs.Doing.{disconnected};
-ghost use Rattle.rt_drive.specs.Driving.{Begins, DoesOrder, HasSent, PrintsHeard, PrintsLost, PrintsNone};
-ghost use Rattle.rt_drive.specs.Driving.{PrintsStep, PrintsTaken, PrintsTold, goes_on};
+ghost use Rattle.rt_drive.specs.Driving.{DoesOrder, HasSent, PrintsHeard, PrintsLost, PrintsStep};
+ghost use Rattle.rt_drive.specs.Driving.{PrintsTaken, PrintsTold, goes_on};
+ghost use Rattle.rt_drive.specs.Ending.{Ends, end_text};
 ghost use Rattle.rt_drive.specs.Run.{bad_among};
 ghost use Rattle.rt_drive.specs.Sending.{linked};
 
+use crate::heard::{Heard, MAX_PINGS, Told};
 use crate::link::Link;
 use crate::lost::Lost;
+use crate::opening::opened;
 use crate::say::say_lost;
 use crate::seats::{
     Seats, obey, open_seats, settle_all, take_messages, take_told, tell_connected,
     tell_disconnected, tell_lost,
 };
-use crate::socket::{Heard, MAX_PINGS, Socket, Told, opened};
 use rt_client::{Client, Seat};
 use rt_input::{ConsoleError, Drain, LineReader, Log, Silent, Source, write_printed};
 use rt_lines::{LineError, Order, Refusal, say_bad_line, write_bad_line, write_refusal};
+use rt_socket::{Awaited, SILENCE_MS, TICK_MS};
 use rt_world::{Call, CoreError};
 use std::alloc::{AllocError, Global};
 use std::io::{Read, Write};
+use std::net::OpenStream;
 use std::random::RandomSource;
 use std::sync::Wait;
+use std::time::Duration;
 
 // A client with its seats, its connection, which is gone once it has failed or ended, how many pings and
 // pongs may still come while the line is done, and what was printed and is not written yet.
-struct Driven<'a, R, S, N> {
+struct Driven<'a, R, W> {
     rt: &'a R,
     alloc: Global,
     client: &'a Client,
     seats: Seats,
-    link: Option<Link<S, N>>,
+    link: Option<Link<W>>,
     pings: u32,
     printed: String,
 }
 
-impl<'a, R, S: Drop, N: Drop> Drop for Driven<'a, R, S, N> {
+impl<'a, R, W: Drop> Drop for Driven<'a, R, W> {
     fn drop(self) {
         let Driven {
             rt: _,
@@ -60,30 +65,16 @@ impl<'a, R, S: Drop, N: Drop> Drop for Driven<'a, R, S, N> {
     }
 }
 
-impl<'a, R: Wait, S: Read + Write + Drop, N: RandomSource + Drop> Driven<'a, R, S, N> {
-    // Opens a connection, where a handshake comes about.
-    fn connect<L: Log>(&mut self, random: N, stream: S, log: &mut L) -> Result<(), AllocError>
-        ensures stands { OnOk result (IfSome self.new.link (λ link.
-            Begins (known_output S.contents) (linked link.socket link.ahead)
-            × (text : List ℕ) × Appends self.old.printed self.new.printed text
-            × PrintsStep step.Connected text)) }
-        ensures none { OnOk result (self.new.link ≡ None → (text : List ℕ)
-            × Appends self.old.printed self.new.printed text
-            × PrintsNone self.old.seats.items text) }
-    {
-        let opened = opened(self.alloc, random, stream)?;
-        self.take_opened(opened, log)
-    }
-
-    // Takes what came of a handshake: a socket, or why there is none.
+impl<'a, R: Wait, W: Awaited + Drop> Driven<'a, R, W> {
+    // Takes what came of a handshake: a wire, or why there is none.
     fn take_opened<L: Log>(
         &mut self,
-        opened: Result<Socket<S, N>, Lost>,
+        opened: Result<W, Lost>,
         log: &mut L,
     ) -> Result<(), AllocError>
-        ensures stands { IfOk opened (λ socket. OnOk result (IfSome self.new.link (λ link.
-            HasSent (known_output S.contents) (linked socket nothing_ahead)
-            (linked link.socket link.ahead)
+        ensures stands { IfOk opened (λ wire. OnOk result (IfSome self.new.link (λ link.
+            HasSent W.sends (linked wire nothing_ahead)
+            (linked link.wire link.ahead)
             × (text : List ℕ) × Appends self.old.printed self.new.printed text
             × PrintsStep step.Connected text))) }
         ensures lost { IfOk opened (λ _. OnOk result (self.new.link ≡ None → (why text : List ℕ)
@@ -94,23 +85,23 @@ impl<'a, R: Wait, S: Read + Write + Drop, N: RandomSource + Drop> Driven<'a, R, 
             OnOk result (Appends self.old.printed self.new.printed disconnected)) }
     {
         match opened {
-            Ok(socket) => self.begin(socket, log),
+            Ok(wire) => self.begin(wire, log),
             Err(why) => self.fail_to_open(&why, log),
         }
     }
 
-    // A connection is opened over the socket: the client is told of it, and sends what it has to.
-    fn begin<L: Log>(&mut self, socket: Socket<S, N>, log: &mut L) -> Result<(), AllocError>
+    // A connection is opened over the wire: the client is told of it, and sends what it has to.
+    fn begin<L: Log>(&mut self, wire: W, log: &mut L) -> Result<(), AllocError>
         ensures stands { OnOk result (IfSome self.new.link (λ link.
-            HasSent (known_output S.contents) (linked socket nothing_ahead)
-            (linked link.socket link.ahead)
+            HasSent W.sends (linked wire nothing_ahead)
+            (linked link.wire link.ahead)
             × (text : List ℕ) × Appends self.old.printed self.new.printed text
             × PrintsStep step.Connected text)) }
         ensures lost { OnOk result (self.new.link ≡ None → (why text : List ℕ)
             × Appends self.old.printed self.new.printed (why ++ text)
             × PrintsStep step.Connected why × PrintsLost self.old.seats.items text) }
     {
-        self.link = Some(Link::new(self.alloc, socket));
+        self.link = Some(Link::new(self.alloc, wire));
         self.tell_connected()?;
         self.send_waiting(log)
     }
@@ -191,8 +182,8 @@ impl<'a, R: Wait, S: Read + Write + Drop, N: RandomSource + Drop> Driven<'a, R, 
         ensures none { self.old.link ≡ None
             → (result ≡ Ok tt) × (self.new ≡ self.old) × (log.new ≡ log.old) }
         ensures sent { IfSome self.old.link (λ old. OnOk result (IfSome self.new.link (λ new.
-            HasSent (known_output S.contents) (linked old.socket old.ahead)
-            (linked new.socket new.ahead) × (self.new.printed ≡ self.old.printed)))) }
+            HasSent W.sends (linked old.wire old.ahead)
+            (linked new.wire new.ahead) × (self.new.printed ≡ self.old.printed)))) }
         ensures lost { IfSome self.old.link (λ old. OnOk result (self.new.link ≡ None → (text : List ℕ)
             × Appends self.old.printed self.new.printed text
             × PrintsLost self.old.seats.items text)) }
@@ -395,24 +386,94 @@ impl<'a, R: Wait, S: Read + Write + Drop, N: RandomSource + Drop> Driven<'a, R, 
         Ok(bad_lines)
     }
 
-    // The connection is closed, and the client is told of it.
+    // The connection is closed, and the client is told of it. A server that doesn't close it too is said to
+    // be gone.
     fn end<L: Log>(&mut self, log: &mut L) -> Result<(), AllocError>
         ensures none { self.new.link ≡ None }
         ensures same { self.old.link ≡ None → (result ≡ Ok tt) × (log.new ≡ log.old) }
-        ensures printed { OnOk result (IfSome self.old.link (λ _. (text : List ℕ)
-            × Appends self.old.printed self.new.printed text × PrintsStep step.Disconnected text)) }
+        ensures printed { OnOk result (IfSome self.old.link (λ _. (why : Lost)
+            × ((had left : W) × Ends W.leaves W.ends MAX_MESSAGE_BYTES had why left)
+            × (text : List ℕ) × Appends self.old.printed self.new.printed (text ++ end_text why)
+            × PrintsStep step.Disconnected text)) }
     {
         let Some(link) = self.link.take() else {
             return Ok(());
         };
         let ended = link.close();
         self.tell_disconnected()?;
-        say_lost(self.alloc, &ended?, log)
+        let why = ended?;
+        let told = say_lost(self.alloc, &why, log);
+        let printed = write_end(&mut self.printed, &why);
+        drop(why);
+        told?;
+        printed
     }
 }
 
-/// As [`drive`], and tells the log why no connection came about or how it ended, and what is wrong with
-/// each bad line.
+// Prints how a connection ended that the client ended, where that is printed.
+fn write_end(out: &mut String, why: &Lost) -> Result<(), AllocError>
+    ensures { OnOk result (Appends out.old out.new (end_text why.now)) }
+{
+    if why.is_unclosed() {
+        out.push_str("disconnected\n")
+    } else {
+        Ok(())
+    }
+}
+
+// Drives a client over what a handshake gave, by the lines that a reader gives.
+fn drive_over<R: Wait, W: Awaited + Drop, I: Source, D: Drain, L: Log>(
+    rt: &R,
+    alloc: Global,
+    client: &Client,
+    seats: Vec<Seat>,
+    opened: Result<W, Lost>,
+    reader: &mut I,
+    writer: &mut D,
+    log: &mut L,
+) -> Result<u64, ConsoleError>
+    requires bytes { I.given reader.old ≤ 2 ^ 63 }
+    requires reads { I.failures reader.old + 1 < 2 ^ 64 }
+    requires writes { D.failures writer.old + 1 < 2 ^ 64 }
+    ensures end { OnOk result (IsAtEnd (I.remaining reader.new)) }
+    ensures counted { IfOk result (λ bad_lines. (text : List ℕ) → I.remaining reader.old ≡ Some text
+        → bad_lines ≡ bad_among (lines_of text)) }
+    ensures within { OnOk result (I.given reader.new ≤ I.given reader.old + most_input) }
+    ensures ok { OnOk result (NoneFailed
+        (counts (I.given reader.old) (I.failures reader.old) (D.failures writer.old))
+        (counts (I.given reader.new) (I.failures reader.new) (D.failures writer.new))) }
+    ensures fault { IfErr result (λ e. Tells e
+        (counts (I.given reader.old) (I.failures reader.old) (D.failures writer.old))
+        (counts (I.given reader.new) (I.failures reader.new) (D.failures writer.new))) }
+{
+    let mut driven = Driven {
+        rt,
+        alloc,
+        client,
+        seats: open_seats(alloc, seats)?,
+        link: None,
+        pings: MAX_PINGS,
+        printed: String::new(alloc),
+    };
+    driven.take_opened(opened, log)?;
+    let outcome = driven.run(reader, writer, log);
+    let ended = driven.end(log);
+    let bad_lines = outcome?;
+    ended?;
+    driven.write_out(writer)?;
+    Ok(bad_lines)
+}
+
+// From here on a read of the stream is given up after a tick, and a write after as long as a server may be
+// silent, where the system knows of such limits.
+fn wait_by_ticks<S: OpenStream>(stream: &S) {
+    let _reads = stream.set_read_timeout(Some(Duration::from_millis(TICK_MS)));
+    let _writes = stream.set_write_timeout(Some(Duration::from_millis(SILENCE_MS)));
+}
+
+/// As [`drive`], over a stream of the system, of which a read is given up after `TICK_MS` of `rt_socket`
+/// and a write after its `SILENCE_MS`: so a server that says nothing is given up. Tells the log why no
+/// connection came about or how it ended, and what is wrong with each bad line.
 ///
 /// # Errors
 ///
@@ -420,7 +481,7 @@ impl<'a, R: Wait, S: Read + Write + Drop, N: RandomSource + Drop> Driven<'a, R, 
 pub fn drive_logged<
     R: Wait,
     N: RandomSource + Drop,
-    S: Read + Write + Drop,
+    S: Read + Write + OpenStream + Drop,
     I: Source,
     D: Drain,
     L: Log,
@@ -449,21 +510,9 @@ pub fn drive_logged<
         (counts (I.given reader.old) (I.failures reader.old) (D.failures writer.old))
         (counts (I.given reader.new) (I.failures reader.new) (D.failures writer.new))) }
 {
-    let mut driven = Driven {
-        rt,
-        alloc,
-        client,
-        seats: open_seats(alloc, seats)?,
-        link: None,
-        pings: MAX_PINGS,
-        printed: String::new(alloc),
-    };
-    driven.connect(random, stream, log)?;
-    let outcome = driven.run(reader, writer, log);
-    let ended = driven.end(log);
-    let bad_lines = outcome?;
-    ended?;
-    Ok(bad_lines)
+    wait_by_ticks(&stream);
+    let opened = opened(alloc, random, stream)?;
+    drive_over(rt, alloc, client, seats, opened, reader, writer, log)
 }
 
 /// Opens a WebSocket as the client over a stream, tells the client that it is connected, and does the
@@ -477,12 +526,17 @@ pub fn drive_logged<
 /// socket has failed too where more than `MAX_MESSAGE_BYTES` of `rt_input` are needed for one message, and
 /// with the last of [`MAX_PINGS`] pings and pongs that come while one line is done.
 ///
+/// A read of the stream that would have to wait says that nothing came for `TICK_MS` of `rt_socket`. A
+/// handshake for which that happened `HANDSHAKE_TICKS` times does not come about, and a server of which
+/// nothing came for `SILENCE_MS` is given up; halfway it is asked for a sign of life.
+///
 /// Where more than [`MAX_UNANSWERED_BYTES`] would be on their way while the server owes an answer, what it
 /// sends is read first, so that neither side waits for the other to read: it is kept until a line reads it.
 /// A socket has failed too where that takes more than [`MAX_KEPT_BYTES`].
 ///
 /// At the end the client says that it goes, and reads on until the server goes too, so that it reads all
-/// that it was sent. What comes then is passed over, and how the socket ends then is not printed.
+/// that it was sent. What comes then is passed over, and how the socket ends then is not printed, unless
+/// nothing comes for `TICK_MS`: then `disconnected` is.
 ///
 /// The lock is taken for each call and let go before anything is read or sent.
 ///
@@ -514,13 +568,13 @@ pub fn drive<R: Wait, N: RandomSource + Drop, S: Read + Write + Drop, I: Source,
         (counts (I.given reader.old) (I.failures reader.old) (D.failures writer.old))
         (counts (I.given reader.new) (I.failures reader.new) (D.failures writer.new))) }
 {
-    drive_logged(
+    let opened = opened(alloc, random, stream)?;
+    drive_over(
         rt,
         alloc,
         client,
         seats,
-        random,
-        stream,
+        opened,
         reader,
         writer,
         &mut Silent,

@@ -1,33 +1,32 @@
-// A connection: its socket, how far the server is behind, and what was read ahead.
+// A connection: its wire, how far the server is behind, and what was read ahead.
 ghost use Rattle.std.specs.Prelude.{◌≡◌, [], None, Ok, true, false, IfOk, IfSome, OnOk};
 ghost use Rattle.std.specs.List.{slice_get};
-ghost use Rattle.rt_input.specs.Counted.{known_output};
+ghost use Rattle.rt_input.specs.declared.counted.TheConstants.{MAX_MESSAGE_BYTES};
 ghost use Rattle.rt_wire.specs.Server.{server_message};
 ghost use Rattle.rt_drive.specs.Ahead.{has_way, heard_by, noted, noted_of, nothing_ahead, with_kept};
 ghost use Rattle.rt_drive.specs.Ahead.{without_first};
-ghost use Rattle.rt_drive.specs.Opening.{is_end};
+ghost use Rattle.rt_drive.specs.Ending.{Ends};
 ghost use Rattle.rt_drive.specs.Sending.{MakesWay, Sends, SendsAll, linked};
 
 use crate::ahead::Ahead;
+use crate::heard::{Heard, Told, hear, leave};
 use crate::lost::Lost;
-use crate::socket::{Heard, Socket, Told, close_socket, hear, send};
+use rt_socket::Awaited;
 use rt_wire::{ClientMessage, ServerMessage, WireError};
 use std::alloc::{AllocError, Global};
-use std::io::{Read, Write};
-use std::random::RandomSource;
 
 // A connection that stands.
-pub(crate) struct Link<S, N> {
+pub(crate) struct Link<W> {
     alloc: Global,
-    socket: Socket<S, N>,
+    wire: W,
     ahead: Ahead,
 }
 
-impl<S: Drop, N: Drop> Drop for Link<S, N> {
+impl<W: Drop> Drop for Link<W> {
     fn drop(self) {
         let Link {
             alloc: _,
-            socket: _,
+            wire: _,
             ahead: _,
         } = self;
     }
@@ -47,7 +46,7 @@ fn note(alloc: Global, ahead: &mut Ahead, words: &str) -> Result<(), AllocError>
     Ok(())
 }
 
-// Notes what was heard of the socket.
+// Notes what was heard of the server.
 fn note_heard(alloc: Global, ahead: &mut Ahead, heard: &Heard) -> Result<(), AllocError>
     ensures { OnOk result (ahead.new ≡ heard_by heard.now ahead.old) }
 {
@@ -57,23 +56,24 @@ fn note_heard(alloc: Global, ahead: &mut Ahead, heard: &Heard) -> Result<(), All
     }
 }
 
-impl<S: Read + Write + Drop, N: RandomSource + Drop> Link<S, N> {
-    pub(crate) fn new(alloc: Global, socket: Socket<S, N>) -> Link<S, N>
-        ensures socket { result.socket ≡ socket }
+impl<W: Awaited + Drop> Link<W> {
+    pub(crate) fn new(alloc: Global, wire: W) -> Link<W>
+        ensures wire { result.wire ≡ wire }
         ensures ahead { result.ahead ≡ nothing_ahead }
     {
         Link {
             alloc,
-            socket,
+            wire,
             ahead: Ahead::new(alloc),
         }
     }
 
-    // The next message of the server, of the socket.
+    // The next message of the server, of the wire, for which as much may be read as for any.
     fn hear(&mut self, pings: &mut u32) -> Result<Heard, AllocError>
         ensures { IfOk result (λ heard. self.new.ahead ≡ heard_by heard self.old.ahead) }
     {
-        let heard = hear(&mut self.socket, pings)?;
+        self.wire.await_message();
+        let heard = hear(&mut self.wire, pings)?;
         match note_heard(self.alloc, &mut self.ahead, &heard) {
             Ok(()) => Ok(heard),
             Err(lacking) => {
@@ -118,7 +118,7 @@ impl<S: Read + Write + Drop, N: RandomSource + Drop> Link<S, N> {
     fn read_ahead(&mut self, len: usize, pings: &mut u32) -> Result<Option<Lost>, AllocError>
         requires { has_way len self.old.ahead ≡ false }
         ensures { IfOk result (λ lost. lost ≡ None → MakesWay len
-            (linked self.old.socket self.old.ahead) (linked self.new.socket self.new.ahead)) }
+            (linked self.old.wire self.old.ahead) (linked self.new.wire self.new.ahead)) }
     {
         // What is kept has a bound, which ends this loop before the number does.
         for _ in 0..u64::MAX {
@@ -135,7 +135,7 @@ impl<S: Read + Write + Drop, N: RandomSource + Drop> Link<S, N> {
     // Makes way for so many bytes; answers why the connection has ended, if it has.
     fn make_way(&mut self, len: usize, pings: &mut u32) -> Result<Option<Lost>, AllocError>
         ensures way { IfOk result (λ lost. lost ≡ None → MakesWay len
-            (linked self.old.socket self.old.ahead) (linked self.new.socket self.new.ahead)) }
+            (linked self.old.wire self.old.ahead) (linked self.new.wire self.new.ahead)) }
         ensures at_once { has_way len self.old.ahead ≡ true → (result ≡ Ok None)
             × (self.new ≡ self.old) × (pings.new ≡ pings.old) }
     {
@@ -147,9 +147,9 @@ impl<S: Read + Write + Drop, N: RandomSource + Drop> Link<S, N> {
 
     // Sends a message, once the server has read enough of those before.
     fn send(&mut self, message: &ClientMessage, pings: &mut u32) -> Result<Option<Lost>, AllocError>
-        ensures { IfOk result (λ lost. lost ≡ None → Sends (known_output S.contents)
-            (linked self.old.socket self.old.ahead) message.now
-            (linked self.new.socket self.new.ahead)) }
+        ensures { IfOk result (λ lost. lost ≡ None → Sends W.sends
+            (linked self.old.wire self.old.ahead) message.now
+            (linked self.new.wire self.new.ahead)) }
     {
         let text = message.text(self.alloc)?;
         let words = text.as_str();
@@ -157,8 +157,8 @@ impl<S: Read + Write + Drop, N: RandomSource + Drop> Link<S, N> {
         if let Some(why) = self.make_way(size, pings)? {
             return Ok(Some(why));
         }
-        if let Some(why) = send(self.alloc, &mut self.socket, words)? {
-            return Ok(Some(why));
+        if let Some(why) = self.wire.send(words)? {
+            return Ok(Some(Lost::Socket(why)));
         }
         self.ahead.note_sent(message, size)?;
         Ok(None)
@@ -170,9 +170,9 @@ impl<S: Read + Write + Drop, N: RandomSource + Drop> Link<S, N> {
         messages: &[ClientMessage],
         pings: &mut u32,
     ) -> Result<Option<Lost>, AllocError>
-        ensures { IfOk result (λ lost. lost ≡ None → SendsAll (known_output S.contents)
-            (linked self.old.socket self.old.ahead) messages.now
-            (linked self.new.socket self.new.ahead)) }
+        ensures { IfOk result (λ lost. lost ≡ None → SendsAll W.sends
+            (linked self.old.wire self.old.ahead) messages.now
+            (linked self.new.wire self.new.ahead)) }
     {
         for message in messages {
             if let Some(why) = self.send(message, pings)? {
@@ -184,9 +184,9 @@ impl<S: Read + Write + Drop, N: RandomSource + Drop> Link<S, N> {
 
     // Ends the connection, and answers how it ended. As much is read as for one message.
     pub(crate) fn close(mut self) -> Result<Lost, AllocError>
-        ensures { IfOk result (λ why. is_end why ≡ true) }
+        ensures { IfOk result (λ why. (had left : W) × Ends W.leaves W.ends MAX_MESSAGE_BYTES had why left) }
     {
-        self.socket.get_mut().await_message();
-        close_socket(&mut self.socket)
+        self.wire.await_message();
+        leave(&mut self.wire)
     }
 }

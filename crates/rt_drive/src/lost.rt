@@ -1,55 +1,48 @@
 // Why a connection does not come about, or ends.
+ghost use Rattle.std.specs.Prelude.{◌≡◌};
+ghost use Rattle.rt_drive.specs.Ending.{is_unclosed};
+
 use crate::ahead::MAX_KEPT_BYTES;
-use crate::socket::MAX_PINGS;
+use crate::heard::MAX_PINGS;
+use rt_socket::{Lost as SocketLost, TICK_MS};
 use std::fmt;
-use tungstenite::{CloseFrame, Error};
 
 /// Why a connection does not come about, or has ended.
 pub(crate) enum Lost {
-    /// The other side speaks no WebSocket, or the stream failed while it was asked.
-    NoHandshake(Error),
-    /// The stream failed, or what came breaks the protocol.
-    Failed(Error),
-    /// The server closed it, and gave no code.
-    Closed,
-    /// The server closed it with a code, and perhaps a reason.
-    ClosedWith(CloseFrame),
+    /// As its socket says.
+    Socket(SocketLost),
     /// Too many pings and pongs.
     Pings,
     /// Too much that no line has asked for.
     Kept,
+    /// The client closed it, and the server did not.
+    Unclosed,
 }
 
 impl Drop for Lost {
     fn drop(self) {
         match self {
-            Lost::NoHandshake(_)
-            | Lost::Failed(_)
-            | Lost::Closed
-            | Lost::ClosedWith(_)
-            | Lost::Pings
-            | Lost::Kept => {}
+            Lost::Socket(_) | Lost::Pings | Lost::Kept | Lost::Unclosed => {}
         }
     }
 }
 
-// Says with which code and reason the server closed.
-fn write_frame<W: fmt::Write>(f: &mut fmt::Formatter<W>, frame: &CloseFrame) -> fmt::Result {
-    let code = frame.code;
-    let reason = frame.reason.as_str();
-    write!(
-        f,
-        "the server closed the connection with code {code}: {reason:?}"
-    )
+impl Lost {
+    // Whether the server did not close it.
+    pub(crate) fn is_unclosed(&self) -> bool
+        ensures { result ≡ is_unclosed self.now }
+    {
+        match self {
+            Lost::Unclosed => true,
+            Lost::Socket(_) | Lost::Pings | Lost::Kept => false,
+        }
+    }
 }
 
 impl fmt::Display for Lost {
     fn fmt<W: fmt::Write>(&self, f: &mut fmt::Formatter<W>) -> fmt::Result {
         match self {
-            Lost::NoHandshake(why) => write!(f, "the handshake failed: {why}"),
-            Lost::Failed(why) => write!(f, "the connection failed: {why}"),
-            Lost::Closed => f.write_str("the server closed the connection, without a code"),
-            Lost::ClosedWith(frame) => write_frame(f, frame),
+            Lost::Socket(why) => write!(f, "{why}"),
             Lost::Pings => write!(
                 f,
                 "{MAX_PINGS} pings and pongs came while one line was done"
@@ -58,6 +51,12 @@ impl fmt::Display for Lost {
                 write!(
                     f,
                     "messages of more than {MAX_KEPT_BYTES} bytes came that no line has read"
+                )
+            }
+            Lost::Unclosed => {
+                write!(
+                    f,
+                    "the server did not close the connection, and said nothing for {TICK_MS} ms"
                 )
             }
         }

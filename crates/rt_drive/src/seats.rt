@@ -13,7 +13,7 @@ ghost use Rattle.rt_drive.specs.Taking.{Takes};
 ghost use Rattle.rt_drive.specs.Telling.{FillsRing, TellsAll, TellsPlace, TellsSeat};
 ghost use Rattle.rt_drive.specs.inside.Waiting.{waiting_of, without_waiting};
 
-use crate::socket::Told;
+use crate::heard::Told;
 use crate::tell::{write_item, write_why};
 use rt_client::{Call, ClientError, Seat, Shared, with_seat};
 use rt_lines::{Order, Refusal, write_cover, write_outcome, write_refusal};

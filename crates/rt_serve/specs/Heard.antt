@@ -1,5 +1,5 @@
 -- What a read of the socket says: a text, a message that is none, or why the connection ends.
-use Rattle.std.specs.Prelude.{ℕ, Bool, true, false, List, [], Option, Some, None, Result, Ok, Err}
+use Rattle.std.specs.Prelude.{ℕ, Bool, List, [], Option, Some, None, Result, Ok, Err}
 use Rattle.std.specs.Prelude.{if◌then◌else◌, ◌||◌, ◌==◌, not}
 use Rattle.websocket.specs.CloseCode.{close_code_number}
 use Rattle.websocket.specs.Connection.{can_read}
@@ -12,8 +12,10 @@ use Rattle.rt_input.specs.Counted.{CountedStream}
 use Rattle.rt_wire.specs.Client.{client_message}
 use Rattle.rt_wire.specs.Crowds.{is_crowded}
 use Rattle.rt_peer.specs.Runs.{Call}
-use Rattle.rt_serve.specs.Broken.{broken_code, broken_of, lacks_memory}
-use Rattle.rt_serve.specs.declared.broken.Broken.{Broken}
+use Rattle.rt_socket.specs.Hearing.{fault_of, is_blocked}
+use Rattle.rt_socket.specs.declared.fault.SocketFault.{SocketFault}
+use Rattle.rt_socket.specs.declared.fault.SocketFault.TheVariants.{OutOfMemory}
+use Rattle.rt_serve.specs.Codes.{fault_code}
 use Rattle.rt_serve.specs.declared.error.ServeError.{ServeError}
 use Rattle.rt_serve.specs.declared.error.ServeError.TheVariants.{NoMemory}
 use Rattle.rt_serve.specs.declared.heard.End.{End}
@@ -36,13 +38,15 @@ heard_message (Kind.Ping bytes) = Nothing
 heard_message (Kind.Pong bytes) = Nothing
 heard_message (Kind.Close frame) = Ended (Closed (code_in frame))
 
-abbrev pub heard_broken : Broken → Result Heard ServeError
-heard_broken why = if lacks_memory why then Err NoMemory else Ok (Ended (Failed why))
+-- want of memory ends serving; nothing is there where a read was given up; each other fault is the end
+abbrev pub heard_fault : SocketFault → Result Heard ServeError
+heard_fault OutOfMemory = Err NoMemory
+heard_fault f = Ok (if is_blocked f then Nothing else Ended (Failed f))
 
 -- what a read says: its message, or its error
 abbrev pub heard_of : Result Message Error → Result Heard ServeError
 heard_of (Ok message) = Ok (heard_message message)
-heard_of (Err e) = heard_broken (broken_of e)
+heard_of (Err e) = heard_fault (fault_of e)
 
 -- ---- why a connection ends
 
@@ -64,7 +68,7 @@ ended_by (Ended end) = Some end
 -- the code that the client is told, where it is told why (RFC 6455, section 7.4.1)
 abbrev pub close_code_of : End → Option ℕ
 close_code_of (Closed code) = None
-close_code_of (Failed why) = broken_code why
+close_code_of (Failed why) = fault_code why
 close_code_of TooMany = Some 1008
 close_code_of Crowded = Some 1009
 

@@ -2,7 +2,7 @@
 --     Sessions    what a connection that is served is to the peer
 --     Errors      the number and the name of each error
 -- Those that the steps of a connection name, none of which is public:
---     Broken      why a socket or a handshake failed
+--     Codes       the code that a client is told
 --     Heard       what a read of the socket says, and what that is to the peer
 --     Answers     what is sent to the connection for a text
 --     Closing     the close that a client is sent which broke the protocol
@@ -10,8 +10,8 @@
 --     Handshakes  whether a handshake came about
 -- laws/ has what is stated for callers: what such a connection leaves as it was (Sessions).
 pub mod Answers
-pub mod Broken
 pub mod Closing
+pub mod Codes
 pub mod Endings
 pub mod Errors
 pub mod Handshakes

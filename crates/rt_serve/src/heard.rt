@@ -1,10 +1,14 @@
 // What a read of the socket says.
 ghost use Rattle.std.specs.Prelude.{◌≡◌, IfErr};
-ghost use Rattle.rt_serve.specs.Heard.{close_code_of, end_of, heard_message, heard_of};
+ghost use Rattle.rt_serve.specs.Codes.{fault_code, protocol_code, stream_code};
+ghost use Rattle.rt_serve.specs.Heard.{close_code_of, end_of, heard_fault, heard_message, heard_of};
 
-use crate::broken::Broken;
 use crate::error::ServeError;
+use rt_socket::{SocketFault, fault_of};
+use std::io;
+use std::io::ErrorKind;
 use tungstenite::{Error, Message, Utf8Bytes};
+use websocket::error::ProtocolError;
 
 // Why a connection ends.
 #[derive(Clone, Copy)]
@@ -12,7 +16,7 @@ pub(crate) enum End {
     // The client closed it, with that code or with none.
     Closed(Option<u16>),
     // A read of the socket failed, or found its end.
-    Failed(Broken),
+    Failed(SocketFault),
     // There were as many messages as are taken.
     TooMany,
     // A text has more commas and brackets than a message may have.
@@ -49,7 +53,7 @@ impl Heard {
 
     // Whether the stream has failed.
     pub(crate) fn has_lost_stream(&self) -> bool {
-        matches!(self, Heard::Ended(End::Failed(Broken::Stream(_, _))))
+        matches!(self, Heard::Ended(End::Failed(SocketFault::Io(_))))
     }
 }
 
@@ -66,32 +70,83 @@ fn heard_message(message: Message) -> Heard
     }
 }
 
+// What a fault of a read says. A read that is given up says nothing.
+fn heard_fault(why: SocketFault) -> Result<Heard, ServeError>
+    ensures heard { result ≡ heard_fault why }
+    ensures memory { IfErr result (λ e. e ≡ ServeError.NoMemory) }
+{
+    match why {
+        SocketFault::OutOfMemory => Err(ServeError::NoMemory),
+        why if why.is_blocked() => Ok(Heard::Nothing),
+        why => Ok(Heard::Ended(End::Failed(why))),
+    }
+}
+
 // What a message or an error of the socket says.
 pub(crate) fn heard_from(read: Result<Message, Error>) -> Result<Heard, ServeError>
     ensures heard { result ≡ heard_of read }
     ensures memory { IfErr result (λ e. e ≡ ServeError.NoMemory) }
 {
-    let error = match read {
-        Ok(message) => return Ok(heard_message(message)),
-        Err(error) => error,
-    };
-    let why = Broken::of(error);
-    if why.lacks_memory() {
-        Err(ServeError::NoMemory)
+    match read {
+        Ok(message) => Ok(heard_message(message)),
+        Err(error) => heard_fault(fault_of(error)),
+    }
+}
+
+// The code of a breach of the protocol; a reset is none.
+fn protocol_code(why: ProtocolError) -> Option<u16>
+    ensures { result ≡ protocol_code why }
+{
+    match why {
+        ProtocolError::ResetWithoutClosingHandshake => None,
+        _ => Some(1002),
+    }
+}
+
+// The code of a stream that failed: more bytes came than are read for a message.
+fn stream_code(why: &io::Error) -> Option<u16>
+    ensures { result ≡ stream_code why.now }
+{
+    if why.kind() == ErrorKind::QuotaExceeded {
+        Some(1009)
     } else {
-        Ok(Heard::Ended(End::Failed(why)))
+        None
+    }
+}
+
+// The code that RFC 6455 (section 7.4.1) has for the client, where it is told why: it broke the protocol, a
+// text is no UTF-8, or a message has too many bytes.
+fn fault_code(why: &SocketFault) -> Option<u16>
+    ensures { result ≡ fault_code why.now }
+{
+    match why {
+        SocketFault::Protocol(why) => protocol_code(*why),
+        SocketFault::Io(why) => stream_code(why),
+        SocketFault::Utf8 => Some(1007),
+        SocketFault::Capacity(_) => Some(1009),
+        SocketFault::ConnectionClosed
+        | SocketFault::AlreadyClosed
+        | SocketFault::WriteBufferFull
+        | SocketFault::AttackAttempt
+        | SocketFault::Handshake(_)
+        | SocketFault::HandshakeIncomplete
+        | SocketFault::JunkAfterRequest
+        | SocketFault::CustomResponseSuccessful
+        | SocketFault::Url
+        | SocketFault::Status(_)
+        | SocketFault::OutOfMemory => None,
     }
 }
 
 impl End {
-    // The code that RFC 6455 (section 7.4.1) has for the client, where it is told why: as at
-    // [`Broken::close_code`], or there were too many messages, or too many values in one.
-    pub(crate) fn close_code(self) -> Option<u16>
-        ensures { result ≡ close_code_of self }
+    // The code for the client, where it is told why: a failure's own, or there were too many messages, or
+    // too many values in one.
+    pub(crate) fn close_code(&self) -> Option<u16>
+        ensures { result ≡ close_code_of self.now }
     {
         match self {
             End::Closed(_) => None,
-            End::Failed(why) => why.close_code(),
+            End::Failed(why) => fault_code(why),
             End::TooMany => Some(1008),
             End::Crowded => Some(1009),
         }

@@ -7,12 +7,11 @@
 //! }
 //! ```
 //!
-//! Handshakes, frames and masks are `tungstenite`'s, and what messages mean is `rt_peer`'s. A contract
+//! Handshakes, frames and masks are `tungstenite`'s, which pages may connect is `rt_socket`'s, and what messages mean is `rt_peer`'s. A contract
 //! sees the peer alone: what any texts leave of it (`specs/Sessions.antt`).
 #![tactic(auto)]
 
 mod answer;
-mod broken;
 mod error;
 mod heard;
 mod laws;

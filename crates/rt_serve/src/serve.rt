@@ -170,7 +170,7 @@ fn take_to_end<S: Read + Write + Drop, L: Log>(
 {
     let end = take_all(alloc, peer, socket, connection, log)?;
     close(socket, end.close_code());
-    telling::ended(alloc, log, connection, end);
+    telling::ended(alloc, log, connection, &end);
     Ok(())
 }
 

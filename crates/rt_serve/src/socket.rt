@@ -9,11 +9,11 @@ ghost use Rattle.rt_serve.specs.Answers.{Tells, text_of, texts_of};
 ghost use Rattle.rt_serve.specs.Closing.{close_frame};
 ghost use Rattle.rt_serve.specs.Heard.{end_of, is_over};
 
-use crate::broken::Broken;
 use crate::error::ServeError;
 use crate::heard::{Heard, heard_from};
 use rt_input::Counted;
 use rt_peer::Sent;
+use rt_socket::{Origins, SocketFault, fault_of};
 use rt_wire::ServerMessage;
 use std::alloc::{AllocError, Global};
 use std::io;
@@ -38,7 +38,7 @@ impl<S: Drop> Drop for Held<S> {
 #[derive(Drop)]
 pub(crate) enum Handshake<S> {
     Done(Held<S>),
-    Failed(Broken),
+    Failed(SocketFault),
 }
 
 // A socket of which a message may have so many bytes.
@@ -51,17 +51,17 @@ fn limited<S: Read + Write + Drop>(mut socket: Socket<S>, most: usize) -> Held<S
 }
 
 // A handshake that failed so: for another cause than memory it is none.
-fn failed<S: Read + Write + Drop>(why: Broken) -> Result<Handshake<S>, ServeError>
+fn failed<S: Read + Write + Drop>(why: SocketFault) -> Result<Handshake<S>, ServeError>
     ensures { IfErr result (λ e. e ≡ ServeError.NoMemory) }
 {
-    if why.lacks_memory() {
-        Err(ServeError::NoMemory)
-    } else {
-        Ok(Handshake::Failed(why))
+    match why {
+        SocketFault::OutOfMemory => Err(ServeError::NoMemory),
+        why => Ok(Handshake::Failed(why)),
     }
 }
 
-// Shakes hands on a stream. At most so many bytes are read for one message, which may be as long.
+// Shakes hands on a stream, with a page of this machine or one who is no page. At most so many bytes are
+// read for one message, which may be as long. One for whom a read is given up speaks no WebSocket.
 pub(crate) fn shake_hands<S: Read + Write + Drop>(
     alloc: Global,
     stream: S,
@@ -69,11 +69,12 @@ pub(crate) fn shake_hands<S: Read + Write + Drop>(
 ) -> Result<Handshake<S>, ServeError>
     ensures { IfErr result (λ e. e ≡ ServeError.NoMemory) }
 {
-    match tungstenite::accept(alloc, Counted::new(stream, most)) {
+    match tungstenite::accept_hdr(alloc, Counted::new(stream, most), Origins::local(alloc)) {
         Ok(socket) => Ok(Handshake::Done(limited(socket, most))),
-        Err(HandshakeError::Failure(error)) => failed(Broken::of(error)),
+        Err(HandshakeError::Failure(error)) => failed(fault_of(error)),
         Err(HandshakeError::Interrupted(_)) => {
-            Ok(Handshake::Failed(Broken::Stream(ErrorKind::WouldBlock, None)))
+            let late = io::Error::from(ErrorKind::TimedOut);
+            Ok(Handshake::Failed(SocketFault::Io(late)))
         }
     }
 }
@@ -119,11 +120,14 @@ fn message_of(alloc: Global, message: &ServerMessage) -> Result<Message, AllocEr
 }
 
 // A message was not sent for that cause: what is sent from here on goes nowhere.
-fn not_sent<S: Read + Write + Drop>(socket: &mut Socket<S>, why: Broken) -> Result<bool, ServeError>
+fn not_sent<S: Read + Write + Drop>(
+    socket: &mut Socket<S>,
+    why: SocketFault,
+) -> Result<bool, ServeError>
     ensures memory { IfErr result (λ e. e ≡ ServeError.NoMemory) }
     ensures none { IfOk result (λ is_sent. is_sent ≡ false) }
 {
-    if why.lacks_memory() {
+    if let SocketFault::OutOfMemory = why {
         return Err(ServeError::NoMemory);
     }
     // It ends where no message comes any more.
@@ -149,7 +153,7 @@ fn send<S: Read + Write + Drop>(
     };
     match socket.send(message) {
         Ok(()) => Ok(true),
-        Err(error) => not_sent(socket, Broken::of(error)),
+        Err(error) => not_sent(socket, fault_of(error)),
     }
 }
 
@@ -183,7 +187,7 @@ fn write_close<W: Write>(stream: &mut W, code: u16) -> io::Result<()>
 // takes no close, so it is written behind its back; where that fails the client is not told.
 pub(crate) fn close<S: Read + Write + Drop>(socket: &mut Socket<S>, code: Option<u16>) {
     if let Err(error) = socket.flush() {
-        let _passed_over = Broken::of(error);
+        let _passed_over = fault_of(error);
     }
     if let Some(code) = code {
         let _closed = write_close(socket.get_mut(), code);

@@ -1,8 +1,8 @@
 // What is told of a connection beside what it is sent.
-use crate::broken::Broken;
 use crate::heard::End;
 use crate::serve::MAX_MESSAGES;
 use rt_input::Log;
+use rt_socket::SocketFault;
 use rt_wire::{MAX_MARKS, WireError};
 use std::alloc::{AllocError, Global};
 use std::fmt;
@@ -14,7 +14,7 @@ fn tell<L: Log>(log: &mut L, line: Result<String, AllocError>) {
     }
 }
 
-pub(crate) fn no_handshake<L: Log>(alloc: Global, log: &mut L, why: Broken) {
+pub(crate) fn no_handshake<L: Log>(alloc: Global, log: &mut L, why: SocketFault) {
     if log.is_on() {
         tell(log, format!(in alloc; "a stream is no WebSocket: {why}"));
     }
@@ -59,7 +59,7 @@ pub(crate) fn not_sent<L: Log>(alloc: Global, log: &mut L, connection: u64) {
     }
 }
 
-pub(crate) fn ended<L: Log>(alloc: Global, log: &mut L, connection: u64, end: End) {
+pub(crate) fn ended<L: Log>(alloc: Global, log: &mut L, connection: u64, end: &End) {
     if log.is_on() {
         tell(
             log,

@@ -1,2 +1,5 @@
+pub mod Awaiting
+pub mod Behind
 pub mod Joining
+pub mod Named
 pub mod Sending

@@ -15,6 +15,18 @@ pub const SILENCE_MS: u64 = 60_000;
 /// How many milliseconds a server has to go once the client has said that it goes.
 pub const CLOSING_MS: u64 = 1_000;
 
+/// After how many milliseconds a read is given up in which nothing came, where a stream is waited for.
+pub const TICK_MS: u64 = CLOSING_MS;
+
+/// How many of these a handshake may take.
+pub const HANDSHAKE_TICKS: u64 = HANDSHAKE_MS / TICK_MS;
+
+// Behind which of these the server is asked whether it is there, counted from none.
+pub(crate) const ASKING_TICK: u64 = PING_MS / TICK_MS - 1;
+
+// Behind how many of these it is given up.
+pub(crate) const SILENT_TICKS: u64 = SILENCE_MS / TICK_MS;
+
 /// How many milliseconds are waited behind a connection that has lasted, and behind the first one.
 pub const FIRST_WAIT_MS: u64 = 1_000;
 

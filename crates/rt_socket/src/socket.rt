@@ -30,8 +30,8 @@ const NO_BOUND: usize = 1 << 40;
 /// server's.
 #[derive(Drop)]
 pub struct Socket<S, K> {
-    alloc: Global,
-    socket: WebSocket<S, K>,
+    pub(crate) alloc: Global,
+    pub(crate) socket: WebSocket<S, K>,
     // What kind of thing it gave last.
     said: Said,
 }
@@ -93,7 +93,7 @@ fn heard_from(read: Result<Message, SocketError>) -> Result<Heard, AllocError>
 }
 
 // Why a write or a flush failed, if it did.
-fn fault_in(answer: Result<(), SocketError>) -> Option<SocketFault>
+pub(crate) fn fault_in(answer: Result<(), SocketError>) -> Option<SocketFault>
     ensures { result ≡ fault_in answer }
 {
     match answer {

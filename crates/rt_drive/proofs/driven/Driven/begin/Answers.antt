@@ -1,5 +1,4 @@
 use Rattle.std.proofs.Common.{rules, ◌≡◌, Some, string_bytes}
-use Rattle.rt_input.specs.Counted.{known_output}
 use Rattle.rt_drive.specs.Ahead.{nothing_ahead}
 use Rattle.rt_drive.specs.Sending.{linked}
 use Rattle.rt_drive.proofs.Driving.{began, lost_at_once}
@@ -8,10 +7,10 @@ use Rattle.rt_drive.proofs.driven.Driven.begin.Goals as goal
 pub returns-clause-stands : goal.returns-clause-stands
 returns-clause-stands g c =
     let is : c.tell_connected.new.self.link ≡ Some c.new.result = search rules in
-    began (known_output g.S.Write.contents) c.send_waiting.result c.tell_connected.new.self.link
-    c.send_waiting.new.self.link c.new.result (λ l. linked l.socket l.ahead) (linked c.args.socket nothing_ahead)
+    began g.W.Awaited.sends c.send_waiting.result c.tell_connected.new.self.link
+    c.send_waiting.new.self.link c.new.result (λ l. linked l.wire l.ahead) (linked c.args.wire nothing_ahead)
     c.args.self.now.printed c.tell_connected.new.self.printed c.send_waiting.new.self.printed
-    c.in_ok-tell_connected.ensures.printed.0 is (λ i. linked (c.new.ensures.socket i) (c.new.ensures.ahead i))
+    c.in_ok-tell_connected.ensures.printed.0 is (λ i. linked (c.new.ensures.wire i) (c.new.ensures.ahead i))
     c.in_ok-tell_connected.ensures.printed.1 c.in_ok-tell_connected.ensures.printed.2 c.send_waiting.ensures.sent
 
 pub returns-clause-lost : goal.returns-clause-lost

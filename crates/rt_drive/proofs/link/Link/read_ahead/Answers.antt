@@ -5,8 +5,8 @@ use Rattle.rt_drive.proofs.link.Link.read_ahead.Goals as goal
 
 pub returns-then-has_way : goal.returns-then-has_way
 returns-then-has_way g c = λ _.
-    made_way c.args.len (linked c.args.self.now.socket c.args.self.now.ahead)
-    (linked c.keep_next.new.self.socket c.keep_next.new.self.ahead)
+    made_way c.args.len (linked c.args.self.now.wire c.args.self.now.ahead)
+    (linked c.keep_next.new.self.wire c.keep_next.new.self.ahead)
     (came_more c.args.len c.args.self.now.ahead c.loop.self.ahead c.keep_next.new.self.ahead
     (c.in_ok-why.ensures c.in_default.is).0 c.loop.invariant (c.in_ok-why.ensures c.in_default.is).1)
     (sym c.has_way.ensures ∙ c.if-has_way.true)

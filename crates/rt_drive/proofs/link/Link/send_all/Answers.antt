@@ -1,4 +1,3 @@
-use Rattle.rt_input.specs.Counted.{known_output}
 use Rattle.rt_drive.specs.Sending.{linked}
 use Rattle.rt_drive.proofs.Sending.{send_more}
 use Rattle.rt_drive.proofs.link.Link.send_all.Goals as goal
@@ -6,8 +5,8 @@ use Rattle.rt_drive.proofs.link.Link.send_all.Goals as goal
 pub loop-message-preserved : goal.loop-message-preserved
 loop-message-preserved g c = λ last h.
     c.loop-message.invariant last
-    (send_more (known_output g.S.Write.contents)
-    (linked c.loop-message.self.socket c.loop-message.self.ahead)
-    (linked c.send.new.self.socket c.send.new.self.ahead) last c.args.messages.now
+    (send_more g.W.Awaited.sends
+    (linked c.loop-message.self.wire c.loop-message.self.ahead)
+    (linked c.send.new.self.wire c.send.new.self.ahead) last c.args.messages.now
     c.loop-message.message-index c.message-item.result c.loop-message-test.true c.message-item.is
     (c.in_ok-why.ensures c.in_default.is) h)
