@@ -18,7 +18,7 @@ from parts import ROOT, Clock, crates, part, some_of
 from proving import copied
 
 PROGRAMS_SHOWN = ("example_chat",)  # README.md shows a text of each
-APPLICATIONS = ("example_start", "example_rooms", "example_board", "example_game", "example_scores")
+APPLICATIONS = ("example_start", "example_todo", "example_rooms", "example_board", "example_game", "example_scores")
 ERRORS = {
     "TreeError": "rt_tree/src/error.rt",
     "QueryError": "rt_query/src/error.rt",

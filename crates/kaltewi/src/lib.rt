@@ -18,7 +18,8 @@
 //! | to show it | [`Snapshots`], [`Snapshot`], `Shared::view` |
 //! | the messages of one server connection | [`ServerMessage::read`], [`ClientMessage::text`] |
 //! | the core alone, with no thread and no lock | [`Core`], [`Step`], [`run`] |
-//! | its connection over a WebSocket, in a thread of its own | [`Link::open`], [`Link::keep`], [`Linked`] |
+//! | its connection over a WebSocket, in a thread of its own | [`Link::open`], [`Linked::keep_while`], [`Linked::both`] |
+//! | to write and wait for the answer, and by a push id | [`Linked::answer`], [`Linked::push`] |
 //! | a small server in the same process, for tests | [`Peer`] |
 //!
 //! A client in threads:
@@ -63,8 +64,8 @@ pub use errors::{
 };
 pub use ids::{PushIds, ids_are_keys, keys_rise};
 pub use link::{
-    Answer, Answered, Bell, Connection, Link, LinkEnd, LinkFault, Linked, Lost, Passed, Turn,
-    link_crossing_law,
+    Answer, Answered, Bell, Connection, Link, LinkEnd, LinkFault, Linked, Lost, Passed, Pushed,
+    Turn, Unpushed, link_crossing_law,
 };
 pub use messages::{Asked, ClientMessage, Held, Part, Parts, Peer, Reason, Sent, ServerMessage};
 pub use queries::{Draft, Index, Limit, Mark, Query, Row, Shown, query_text};

@@ -64,15 +64,69 @@
 ///     linked.set(rt, seat, path, tree)
 /// }
 ///
-/// fn write_and_wait(
-///     rt: &impl Wait,
+/// fn write_and_wait<R: Wait + Clock>(
+///     rt: &R,
 ///     linked: &Linked,
 ///     seat: &mut Seat,
 ///     path: Path,
 ///     tree: Tree,
-/// ) -> Result<Answer, ClientError> {
+/// ) -> Result<Option<Answer>, ClientError> {
 ///     let request = linked.set(rt, seat, path, tree)?;
-///     linked.wait_answer(rt, seat, request)
+///     linked.answer(rt, seat, request, Duration::from_secs(10))
+/// }
+///
+/// fn wait_for_first<R: Wait + Clock>(
+///     rt: &R,
+///     linked: &Linked,
+///     seat: &mut Seat,
+///     seen: &mut Snapshots,
+///     listener: u64,
+/// ) -> Result<bool, ClientError> {
+///     linked.wait_value(rt, seat, seen, listener, Duration::from_secs(10))
+/// }
+///
+/// fn show_each<R: Print + Wait>(rt: &R, linked: &Linked, seat: &mut Seat) -> Result<()> {
+///     linked.for_each(rt, seat, |item| show_news(rt, item))?
+/// }
+///
+/// fn push_linked<R: Wait + Clock + RandomSource>(
+///     rt: &R,
+///     alloc: Global,
+///     linked: &Linked,
+///     seat: &mut Seat,
+///     path: &Path,
+///     tree: Tree,
+/// ) -> Result<u64, Unpushed> {
+///     let pushed: Pushed = linked.push(rt, alloc, seat, path, tree)?;
+///     let request = pushed.request;
+///     drop(pushed);
+///     Ok(request)
+/// }
+///
+/// fn new_key<R: Wait + Clock + RandomSource>(
+///     rt: &R,
+///     alloc: Global,
+///     linked: &Linked,
+/// ) -> Result<Key, Unpushed> {
+///     linked.push_key(rt, alloc)
+/// }
+///
+/// fn keep_for_two<R: Threads + Net + Wait + Clock + RandomSource + Sync>(
+///     rt: &R,
+///     alloc: Global,
+///     link: &mut Link,
+///     linked: &Linked,
+///     server: SocketAddr,
+/// ) -> Result<(), LinkFault> {
+///     let (kept, ((), ())) = linked.keep_while(
+///         rt,
+///         alloc,
+///         link,
+///         server,
+///         |_, _| {},
+///         |linked| linked.both(rt, |linked| linked.stop(rt), |linked| linked.ring()),
+///     );
+///     kept
 /// }
 ///
 /// fn nothing_heard(alloc: Global) -> (Mirror, Answered) {
@@ -116,7 +170,7 @@
 ///     link.passed_over()
 /// }
 /// ```
-pub use rt_link::{Answer, Answered, Link, LinkEnd, LinkFault, Linked};
+pub use rt_link::{Answer, Answered, Link, LinkEnd, LinkFault, Linked, Pushed, Unpushed};
 
 /// What wakes a link, for a thread that makes no call.
 ///

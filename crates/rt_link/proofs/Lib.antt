@@ -1,5 +1,8 @@
 pub mod Crosses
+pub mod Given
 pub mod Leaving
+pub mod Looked
 pub mod Rounds
+pub mod Seen
 pub mod Taken
 pub mod Told

@@ -2,6 +2,7 @@
 use Rattle.std.specs.Prelude.{◌≡◌, ◌⊎◌, ◌==◌, ◌+◌, ℕ, min, List, [], ◌∷◌, ◌++◌, if◌then◌else◌}
 use Rattle.std.specs.Prelude.{Option, Some, None, IsTrue, is_some}
 use Rattle.std.specs.List.{fold}
+use Rattle.std.specs.Option.{option_or}
 use Rattle.rt_wire.specs.declared.reason.Reason.{Reason}
 use Rattle.rt_world.specs.declared.call.Call.{Call}
 use Rattle.rt_mail.specs.declared.item.Item.{Item}
@@ -29,10 +30,37 @@ answer_in (item.Batch batch) request = None
 answer_in (item.Settled id why) request = if id == request then Some (settled_by why) else None
 answer_in (item.Cancelled listener why) request = None
 
--- the first of some items says so, or nothing
-abbrev pub first_answer : List Item → ℕ → Option Answer
-first_answer [] request = None
-first_answer (i ∷ is) request = answer_in i request
+-- what the first of some items that speaks of a request says of it, or nothing
+abbrev pub answer_among : List Item → ℕ → Option Answer
+answer_among [] request = None
+answer_among (i ∷ is) request = option_or (answer_in i request) (answer_among is request)
+
+-- the items behind that one; none where none speaks of it
+abbrev pub behind_answer : List Item → ℕ → List Item
+behind_answer [] request = []
+behind_answer (i ∷ is) request = if is_some (answer_in i request) then is else behind_answer is request
+
+-- what is said of a request by the items that the seat's ring held and then those that came, in order: up to
+-- the first that speaks of it they are passed over, and all where none does
+pub record Answers (old : Seated) (request : ℕ) (said : Option Answer) (new : Seated) : Type 0 where
+  pub came : List Item
+  pub told : said ≡ answer_among (old.ring.items ++ came) request
+  pub seat : new ≡ record old {
+    ring = record old.ring { items = behind_answer (old.ring.items ++ came) request };
+  }
+
+-- nothing is said of it so far: the seat is as it was, or items were passed over
+abbrev pub IsSilent : Seated → ℕ → Seated → Type 0
+IsSilent old request new = (new ≡ old) ⊎ Answers old request None new
+
+-- why it is waited for no more: the client has failed, or the seat is closed or another client's
+abbrev pub RefusesAnswering : Seated → ℕ → ClientError → Seated → Type 0
+RefusesAnswering old request client.Failed new = IsSilent old request new
+RefusesAnswering old request client.WrongSeat new = IsSilent old request new
+RefusesAnswering old request client.MailboxFull new = ⊥
+RefusesAnswering old request client.TooManySeats new = ⊥
+RefusesAnswering old request (client.Core why) new = ⊥
+RefusesAnswering old request client.NoMemory new = ⊥
 
 -- a seat stays the same one: what its ring holds may change
 abbrev pub IsSameSeat : Seated → Seated → Type 0

@@ -4,12 +4,18 @@
 --     Carrying   where a connection stands, and what a turn and a close make of that
 --     Keeping    a link, and how long it waits between the connections that it keeps
 --     Answering  what an item says of a request, and what a seat's items say of all of them
+--     Seeing     what the snapshots of a seat's thread take of it
+--     Giving     what a seat is told, given to a work item by item
+--     Pushing    a write by a push id
 -- laws/ has what goes to threads (Crossing). What a wire gives and takes, and how long a silent server is waited
 -- for, is of rt_socket.
 pub mod Answering
 pub mod Carrying
+pub mod Giving
 pub mod inside
 pub mod Keeping
 pub mod laws
+pub mod Pushing
+pub mod Seeing
 pub mod Taking
 pub mod Turning

@@ -1,20 +1,18 @@
 // What the server answers to a request.
-ghost use Rattle.std.specs.Prelude.{◌≡◌, drop};
-ghost use Rattle.rt_link.specs.Answering.{answer_in, first_answer, settled_by};
+ghost use Rattle.std.specs.Prelude.{◌≡◌};
+ghost use Rattle.rt_link.specs.Answering.{answer_among, answer_in, behind_answer, settled_by};
 
 use rt_client::Seat;
 use rt_mail::Item;
 use rt_wire::Reason;
 
-/// What became of a request.
+/// What the server says of a request.
 #[derive(Drop)]
 pub enum Answer {
-    /// The server has done it.
+    /// It has done it.
     Done,
-    /// The server refuses it, for a reason.
+    /// It refuses it, for a reason.
     Refused(Reason),
-    /// The client was told to stop before the server answered.
-    Stopped,
 }
 
 // How it is settled, with a reason where it is refused.
@@ -43,15 +41,18 @@ fn answer_in(item: Item, request: u64) -> Option<Answer>
     }
 }
 
-// Takes the first item of the seat's ring, and answers what it says of a request.
-pub(crate) fn take_answer(seat: &mut Seat, request: u64) -> Option<Answer>
-    ensures answer { result ≡ first_answer seat.old.ring.items request }
+// Takes items of the seat's ring up to the first that speaks of a request, and answers what it says.
+pub(crate) fn find_answer(seat: &mut Seat, request: u64) -> Option<Answer>
+    ensures answer { result ≡ answer_among seat.old.ring.items request }
     ensures seat { seat.new ≡ record (seat.old) {
-      ring = record (seat.old.ring) { items = drop 1 seat.old.ring.items };
+      ring = record (seat.old.ring) { items = behind_answer seat.old.ring.items request };
     } }
 {
-    match seat.next() {
-        Some(item) => answer_in(item, request),
-        None => None,
+    while let Some(item) = seat.next() {
+        let answer = answer_in(item, request);
+        if answer.is_some() {
+            return answer;
+        }
     }
+    None
 }

@@ -10,16 +10,12 @@ ghost use Rattle.rt_link.specs.Answering.{IsDoneBehind, IsSameSeat, IsUnmadeBehi
 ghost use Rattle.rt_link.specs.Answering.{none_answered, one_more, tallied, HearsAll};
 ghost use Rattle.rt_link.specs.inside.Trials.{tried_of, IsSettled, Tries};
 
-use crate::connection::millis_since;
 use crate::linked::Linked;
+use crate::waiting::Bound;
 use rt_client::{Call, ClientError, Done, Seat, Uncalled};
 use rt_mail::{Item, MailError, Mirror};
 use std::sync::Wait;
-use std::thread;
-use std::time::{Clock, Duration, Instant};
-
-// How many milliseconds lie between two looks at a seat of which nothing is there.
-const LOOK_MS: u64 = 10;
+use std::time::{Clock, Duration};
 
 /// What became of a seat's requests, as far as its thread has heard.
 #[derive(Clone, Copy, Debug, PartialEq, Eq)]
@@ -121,21 +117,10 @@ fn tried_of(refused: Uncalled) -> Tried
     }
 }
 
-// How many milliseconds are left of so many; none where there is no clock.
-fn left_of<R: Clock>(rt: &R, begun: Option<Instant>, most: u64) -> u64 {
-    let Some(begun) = begun else {
-        return 0;
-    };
-    match millis_since(rt, begun) {
-        Ok(gone) => most.saturating_sub(gone),
-        Err(_) => 0,
-    }
-}
-
 impl Linked {
     // Settles the seat, and waits for nobody.
     #[tactic(auto, using(crate::proofs::Told::unsettled))]
-    fn settle<R: Wait>(&self, rt: &R, seat: &mut Seat) -> Result<(), ClientError>
+    pub(crate) fn settle<R: Wait>(&self, rt: &R, seat: &mut Seat) -> Result<(), ClientError>
         ensures settled { OnOk result (IsSettled seat.old seat.new) }
         ensures refused { IfErr result (λ e. RefusesTurn seat.old e seat.new) }
         ensures memory { IfErr result (λ e. e ≢ NoMemory) }
@@ -171,11 +156,6 @@ impl Linked {
             }
             Err(_) => Err(ClientError::NoMemory),
         }
-    }
-
-    // Whether something is there for the seat.
-    fn is_due<R: Wait>(&self, rt: &R, seat: &Seat) -> bool {
-        self.client.shared.lock(rt).is_due(seat)
     }
 
     // Makes a call, where the seat's mailbox has room.
@@ -255,19 +235,13 @@ impl Linked {
         ensures refused { IfErr result (λ e.
             RefusesHearing seat.old heard.old answers.old e seat.new heard.new answers.new) }
     {
-        let most = u64::try_from(within.as_millis()).unwrap_or(u64::MAX);
-        let begun = Instant::now(rt).ok();
+        let bound = Bound::new(rt, within);
         for _ in rt.forever() {
-            let is_stopped = self.is_stopped(rt);
-            let left = left_of(rt, begun, most);
+            let look = self.begin_look(rt, bound);
             self.hear(rt, seat, heard, answers)?;
             let unanswered = heard.requests().len();
-            let is_due = self.is_due(rt, seat);
-            if unanswered == 0 || left == 0 || (is_stopped && !is_due) {
+            if unanswered == 0 || !self.pauses(rt, seat, look) {
                 return Ok(unanswered);
-            }
-            if !is_due {
-                thread::sleep(rt, Duration::from_millis(left.min(LOOK_MS)));
             }
         }
         unreachable!()

@@ -6,14 +6,14 @@
 //! let (mut link, linked) = Link::open(rt, alloc, client)?;
 //! linked.set(rt, &mut seats[0], path, tree)?;              // in any thread: calls, and wakes the link
 //! linked.client.wait(rt, &mut seats[0])?;                  // sleeps until the seat is told something
-//! link.keep(rt, alloc, &linked, random, address)?;         // in one thread, again and again: a connection
-//! linked.wait_answers(rt, &mut seats[0], &mut mirror, &mut answers, most)?;   // before one ends
-//! linked.stop(rt);                                         // until it is told to stop
+//! linked.answer(rt, &mut seats[0], request, most)?;        // waits until the request is answered
+//! linked.keep_while(rt, alloc, &mut link, address, ends, work)     // connects, until the work is done
 //! ```
 //!
 //! [`Link::run`] connects, tells the client that it is connected, carries messages, and tells it that it is
 //! disconnected. It can be run again: the client then makes its listens and its unanswered requests anew.
-//! [`Link::keep`] is such a run behind a wait, which grows as long as no connection lasts.
+//! [`Link::keep`] is such a run behind a wait, which grows as long as no connection lasts, and
+//! [`Linked::keep_while`] keeps a client connected while a work is done in a thread of its own.
 //! So a write whose answer was lost reaches the server twice. One write is done then in the place of
 //! the other where nobody else has written in between; else it is the last one again.
 //!
@@ -21,14 +21,19 @@
 #![tactic(auto)]
 
 mod answering;
+mod beside;
 mod connection;
 mod crossing;
 mod error;
+mod giving;
 mod hearing;
 mod link;
 mod linked;
+mod pushing;
+mod seeing;
 mod taking;
 mod turning;
+mod waiting;
 
 pub use answering::Answer;
 pub use connection::{Connection, Turn};
@@ -37,6 +42,7 @@ pub use error::LinkFault;
 pub use hearing::Answered;
 pub use link::{Link, LinkEnd};
 pub use linked::{Bell, Linked};
+pub use pushing::{Pushed, Unpushed};
 pub use rt_socket::{
     Batch, Flushed, Heard, Lost, Pause, Said, SocketFault, Wire, hear_all, say_all,
 };

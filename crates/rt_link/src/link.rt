@@ -13,6 +13,7 @@ use mio::{Events, Interest, Poll, Token, Waker};
 use rt_client::Client;
 use rt_socket::{Lost, Patience, up_to, wait_after};
 use std::alloc::Global;
+use std::fmt;
 use std::marker::Model;
 use std::net::{Net, SocketAddr};
 use std::random::RandomSource;
@@ -36,6 +37,15 @@ pub enum LinkEnd {
     NotOpened(Lost),
     /// The connection has ended.
     Ended(Lost),
+}
+
+impl fmt::Display for LinkEnd {
+    fn fmt<W: fmt::Write>(&self, f: &mut fmt::Formatter<W>) -> fmt::Result {
+        match self {
+            LinkEnd::Stopped => f.write_str("told to stop"),
+            LinkEnd::NotOpened(why) | LinkEnd::Ended(why) => fmt::Display::fmt(why, f),
+        }
+    }
 }
 
 // What a run does after a turn.

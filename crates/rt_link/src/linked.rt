@@ -6,9 +6,10 @@ ghost use Rattle.rt_wire.specs.declared.request.Ending.TheVariants.{Run, Cancel}
 ghost use Rattle.rt_world.specs.declared.call.Call.TheVariants as call;
 ghost use Rattle.rt_client.specs.Calls.{handed_back};
 ghost use Rattle.rt_client.specs.Waiting.{IsNumbered, IsMade, IsDone, IsUnmade, IsClosed, IsUnclosed};
-ghost use Rattle.rt_link.specs.Answering.{IsSameSeat};
+ghost use Rattle.rt_link.specs.Answering.{Answers, RefusesAnswering};
 
-use crate::answering::{Answer, take_answer};
+use crate::answering::{Answer, find_answer};
+use crate::waiting::Bound;
 use mio::Waker;
 use rt_client::{Action, Call, Client, ClientError, Done, Seat, Uncalled, Unclosed};
 use rt_query::Query;
@@ -16,6 +17,7 @@ use rt_tree::{Path, Tree};
 use std::alloc::{AllocError, Global};
 use std::marker::Model;
 use std::sync::{Arc, Wait};
+use std::time::{Clock, Duration};
 
 /// What wakes a link. Threads share it, or each has a clone.
 pub struct Bell {
@@ -213,28 +215,49 @@ impl Linked {
         answer
     }
 
-    /// Waits until the server has answered a request of the seat, and says what became of it. What else the
-    /// seat is told until then is passed over, the answers of its other requests too. So who listens has a
-    /// further seat for its requests, and who makes several before one is answered takes
-    /// [`Linked::wait_answers`].
-    ///
-    /// # Errors
-    ///
-    /// As of [`Client::wait`].
-    pub fn wait_answer<R: Wait>(
+    // What is said of a request by all that is there for the seat. Waits for nobody.
+    #[tactic(auto, using(crate::proofs::Looked::not_settled))]
+    fn look_for<R: Wait>(
         &self,
         rt: &R,
         seat: &mut Seat,
         request: u64,
-    ) -> Result<Answer, ClientError>
-        ensures seat { OnOk result (IsSameSeat seat.old seat.new) }
+    ) -> Result<Option<Answer>, ClientError>
+        ensures said { IfOk result (λ said. Answers seat.old request said seat.new) }
+        ensures refused { IfErr result (λ e. RefusesAnswering seat.old request e seat.new) }
     {
+        self.settle(rt, seat)?;
+        Ok(find_answer(seat, request))
+    }
+
+    /// Waits until the server has answered a request of the seat, but not longer than so long, and not once the
+    /// client was told to stop: what it says; none where it has not answered yet. What else the seat is told
+    /// until then is passed over, the answers of its other requests too. So who listens has a further seat for
+    /// its requests, and who makes several before one is answered takes [`Linked::wait_answers`].
+    ///
+    /// # Errors
+    ///
+    /// As of [`Client::wait`].
+    #[tactic(auto, using(crate::proofs::Looked::nothing_passed))]
+    pub fn answer<R: Wait + Clock>(
+        &self,
+        rt: &R,
+        seat: &mut Seat,
+        request: u64,
+        within: Duration,
+    ) -> Result<Option<Answer>, ClientError>
+        ensures said { IfOk result (λ said. Answers seat.old request said seat.new) }
+        ensures refused { IfErr result (λ e. RefusesAnswering seat.old request e seat.new) }
+    {
+        let bound = Bound::new(rt, within);
         for _ in rt.forever() {
-            if !self.client.wait(rt, seat)? {
-                return Ok(Answer::Stopped);
+            let look = self.begin_look(rt, bound);
+            match self.look_for(rt, seat, request)? {
+                Some(answer) => return Ok(Some(answer)),
+                None => {}
             }
-            if let Some(answer) = take_answer(seat, request) {
-                return Ok(answer);
+            if !self.pauses(rt, seat, look) {
+                return Ok(None);
             }
         }
         unreachable!()

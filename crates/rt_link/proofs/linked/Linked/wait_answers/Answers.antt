@@ -8,11 +8,6 @@ loop-preserved g c =
     inr (all_after c.args.seat.now c.loop.seat c.hear.new.seat c.args.heard.now c.loop.heard c.hear.new.heard
     c.args.answers.now c.loop.answers c.hear.new.answers c.loop.invariant c.in_ok-hear.ensures.heard)
 
-pub loop-preserved-then-not-is_due-2 : goal.loop-preserved-then-not-is_due-2
-loop-preserved-then-not-is_due-2 g c =
-    inr (all_after c.args.seat.now c.loop.seat c.hear.new.seat c.args.heard.now c.loop.heard c.hear.new.heard
-    c.args.answers.now c.loop.answers c.hear.new.answers c.loop.invariant c.in_ok-hear.ensures.heard)
-
 pub returns-in_err-hear-clause-refused : goal.returns-in_err-hear-clause-refused
 returns-in_err-hear-clause-refused g c =
     let why = c.in_err-hear.field-0.0 in

@@ -1,0 +1,84 @@
+-- What a seat's thread has given to its work.
+use Rattle.std.proofs.Common.{◌≡◌, ◌∙◌, List, [], ◌∷◌, ◌++◌, drop, Bool, Option, Some, None, Result, Ok, Err, refl, sym, ap, append_assoc}
+use mathlib.Core.List.{append-nil}
+use Rattle.std.proofs.lemmas.Fn.{FoldsTo-push}
+use Rattle.std.specs.Borrow.{Bor}
+use Rattle.std.specs.Fn.{CalledAt, Mut}
+use Rattle.std.specs.List.{slice_get}
+use Rattle.rt_mail.specs.declared.item.Item.{Item}
+use Rattle.rt_client.specs.Calls.{Seated}
+use Rattle.rt_client.specs.Waiting.{Awaits}
+use Rattle.rt_link.specs.Giving.{with_ring, HasGiven, GivesAll}
+use Rattle.rt_link.proofs.Seen.{first_and_rest}
+use Rattle.rt_link.proofs.Told.{none_left}
+
+module _ {F E : Type 0} (g : Mut F (Bor Item × Unit {0}) (Result (Unit {0}) E)) where
+  -- before the first
+  pub nothing_given : (f : F) (s : Seated) → HasGiven g f s f s
+  nothing_given f s = record {
+    came = [];
+    given = [];
+    items = append-nil s.ring.items;
+    taken = refl;
+    seat = refl;
+  }
+
+  -- items come
+  pub more_came : (f : F) (old : Seated) (last : F) (s t : Seated) (there : Bool) → HasGiven g f old last s → Awaits s there t → HasGiven g f old last t
+  more_came f old last s t there h w =
+      let items = ap (λ (z : Seated). z.ring.items) w.seat in
+      record {
+        came = h.came ++ w.came;
+        given = h.given;
+        items =
+            sym (append_assoc old.ring.items h.came w.came)
+            ∙ ap (λ (xs : List Item). xs ++ w.came) h.items
+            ∙ append_assoc h.given s.ring.items w.came
+            ∙ ap (λ (xs : List Item). h.given ++ xs) (sym items);
+        taken = h.taken;
+        seat =
+            w.seat
+            ∙ ap (with_ring (s.ring.items ++ w.came)) h.seat
+            ∙ ap (λ (xs : List Item). with_ring xs old) (sym items);
+      }
+
+  -- the first of them is taken
+  pub one_given : (f : F) (old : Seated) (last : F) (s t : Seated) (x : Item) (next : F) → HasGiven g f old last s → slice_get s.ring.items 0 ≡ Some x
+      → CalledAt g last x (Ok tt) next → t ≡ with_ring (drop 1 s.ring.items) s → HasGiven g f old next t
+  one_given f old last s t x next h first called left =
+      let items = ap (λ (z : Seated). z.ring.items) left in
+      record {
+        came = h.came;
+        given = h.given ++ x ∷ [];
+        items =
+            h.items
+            ∙ ap (λ (xs : List Item). h.given ++ xs) (first_and_rest s.ring.items x first)
+            ∙ sym (append_assoc h.given (x ∷ []) (drop 1 s.ring.items))
+            ∙ ap (λ (xs : List Item). (h.given ++ x ∷ []) ++ xs) (sym items);
+        taken = FoldsTo-push (λ at item new. CalledAt g at item (Ok tt) new) f h.given last x next h.taken called;
+        seat =
+            left
+            ∙ ap (with_ring (drop 1 s.ring.items)) h.seat
+            ∙ ap (λ (xs : List Item). with_ring xs old) (sym items);
+      }
+
+  -- none is left
+  pub all_given : (f : F) (old : Seated) (last : F) (s t : Seated) → HasGiven g f old last s → slice_get s.ring.items 0 ≡ None
+      → t ≡ with_ring (drop 1 s.ring.items) s → GivesAll g f old t
+  all_given f old last s t h none left =
+      let empty = none_left s.ring.items none in
+      let items : t.ring.items ≡ s.ring.items = ap (λ (z : Seated). z.ring.items) left ∙ ap (drop 1) empty ∙ sym empty in
+      record {
+        last = last;
+        gave = record {
+          came = h.came;
+          given = h.given;
+          items = h.items ∙ ap (λ (xs : List Item). h.given ++ xs) (sym items);
+          taken = h.taken;
+          seat =
+              left
+              ∙ ap (with_ring (drop 1 s.ring.items)) h.seat
+              ∙ ap (λ (xs : List Item). with_ring xs old) (sym (ap (λ (z : Seated). z.ring.items) left));
+        };
+        all = items ∙ empty;
+      }
