@@ -206,9 +206,9 @@ KINDS = {
     it.__name__: (it, power, sizes)
     for power, sizes, kinds in [
         (1, (200, 1600), (entries, scattered, removals, parts, settled, overwritten, asked, window, above, runs)),
-        (1, (100, 800), (stops, revoked, heard)),
+        (1, (100, 800), (stops, heard)),
         (2, (250, 2000), (ends, equals)),
-        (2, (100, 800), (compared,)),
+        (2, (100, 800), (revoked, compared)),
         (2, (50, 400), (toggled, below, actions)),
         (3, (12, 96), (ranges, nested)),
     ]
