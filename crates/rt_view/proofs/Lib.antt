@@ -13,6 +13,7 @@ pub mod Placed
 pub mod Orderings
 pub mod RangedLaws
 pub mod ReplayLaws
+mod RisingLaws
 pub mod RunLaws
 pub mod SeenLaws
 pub mod TellLaws

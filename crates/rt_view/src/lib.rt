@@ -23,6 +23,7 @@ mod others;
 mod place;
 mod position;
 mod ranged;
+mod rising;
 mod seek;
 mod tell;
 mod told;

@@ -25,15 +25,14 @@ use rt_order::Index;
 use rt_query::Query;
 use rt_tree::{Leaf, Tree};
 use std::alloc::{AllocError, Global};
-use std::collections::BTreeMap;
 
 // The children that are shown no more.
 fn push_removed(
     changes: &mut Vec<Change>,
     alloc: Global,
-    gone: &BTreeMap<Position, Tree>,
+    gone: &[(Position, Tree)],
 ) -> Result<(), AllocError>
-    ensures { OnOk result (changes.new.items ≡ changes.old.items ++ map removed_of gone.now.entries) }
+    ensures { OnOk result (changes.new.items ≡ changes.old.items ++ map removed_of gone.now) }
 {
     for (position, old) in gone {
         changes.push(removed(alloc, position.key(), old)?)?;
@@ -47,10 +46,10 @@ fn push_given(
     alloc: Global,
     kind: Kind,
     index: &Index,
-    now: &BTreeMap<Position, Told>,
+    now: &[(Position, Told)],
 ) -> Result<(), AllocError>
     ensures { OnOk result (changes.new.items
-        ≡ changes.old.items ++ given_of kind index.now now.now.entries) }
+        ≡ changes.old.items ++ given_of kind index.now now.now) }
 {
     for (position, told) in now {
         if kind.is_given(index, told.old.as_ref(), &told.new) {
@@ -76,11 +75,12 @@ fn row_changes(
 {
     let index = query.index();
     let found = find_all_told(alloc, query, window, seen)?;
+    let now = found.now.as_slice();
     let mut changes = Vec::new(alloc);
-    push_removed(&mut changes, alloc, &found.gone)?;
-    push_given(&mut changes, alloc, Kind::Added, index, &found.now)?;
-    push_given(&mut changes, alloc, Kind::Moved, index, &found.now)?;
-    push_given(&mut changes, alloc, Kind::Changed, index, &found.now)?;
+    push_removed(&mut changes, alloc, found.gone.as_slice())?;
+    push_given(&mut changes, alloc, Kind::Added, index, now)?;
+    push_given(&mut changes, alloc, Kind::Moved, index, now)?;
+    push_given(&mut changes, alloc, Kind::Changed, index, now)?;
     Ok(changes)
 }
 

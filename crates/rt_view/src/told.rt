@@ -9,12 +9,13 @@ ghost use Rattle.rt_order.specs.Cuts.{has};
 ghost use Rattle.rt_order.specs.Entries.{entry, entry_cmp};
 ghost use Rattle.rt_view.specs.inside.Windows.{before, shown_in};
 ghost use Rattle.rt_view.specs.inside.Kept.{IsWindowOf, gone_at, gone_from, noted_in, rows_in_tree};
-ghost use Rattle.rt_view.specs.inside.Telling.{IsSeen, IsSeenIn, gone_too, keys_in, seen_in};
-ghost use Rattle.rt_view.specs.inside.Telling.{seen_out, seen_too, seen_turned, told_in, told_too};
+ghost use Rattle.rt_view.specs.inside.Telling.{IsSeen, IsSeenIn, gone_too, keys_in, kept_by, put_all};
+ghost use Rattle.rt_view.specs.inside.Telling.{seen_in, seen_out, seen_too, seen_turned, told_in, told_too};
 
 use crate::change::copy_key;
 use crate::position::Position;
-use crate::window::{Turned, Window, set};
+use crate::rising::in_order;
+use crate::window::{Turned, Window};
 use rt_order::Index;
 use rt_query::Query;
 use rt_tree::{Key, Tree};
@@ -58,8 +59,8 @@ impl Drop for Told {
 
 // The noted children in order: those that are shown no more, and those that are shown now.
 pub struct Noted {
-    pub gone: BTreeMap<Position, Tree>,
-    pub now: BTreeMap<Position, Told>,
+    pub gone: Vec<(Position, Tree)>,
+    pub now: Vec<(Position, Told)>,
 }
 
 impl Drop for Noted {
@@ -124,29 +125,50 @@ fn keep_seen(
     set_seen(seen, key.copy()?, one)
 }
 
-// Keeps the child that crossed to those that are shown.
-fn keep_in(seen: &mut BTreeMap<Key, Seen>, alloc: Global, left: &Turned) -> Result<(), AllocError>
-    ensures { OnOk result (seen.new.entries ≡ seen_in left.now.crossed seen.old.entries) }
+// Notes that a child is shown under a key now, or none, in place of the old one.
+fn note(
+    noted: &mut Vec<Seen>,
+    alloc: Global,
+    key: &Key,
+    old: Option<&Tree>,
+    new: Option<&Tree>,
+) -> Result<(), AllocError>
+    ensures { OnOk result (kept_by noted.new.items
+        ≡ seen_too key.now (option_copied old.entry) (option_copied new.entry)
+        (kept_by noted.old.items)) }
+{
+    let was = copy_tree(alloc, old)?;
+    let new = copy_tree(alloc, new)?;
+    let key = key.copy()?;
+    noted.push(Seen { key, old: was, new })?;
+    Ok(())
+}
+
+// Notes the child that crossed to those that are shown.
+fn note_in(noted: &mut Vec<Seen>, alloc: Global, left: &Turned) -> Result<(), AllocError>
+    ensures { OnOk result (kept_by noted.new.items
+        ≡ seen_in left.now.crossed (kept_by noted.old.items)) }
 {
     match &left.crossed {
-        Some((key, tree)) => keep_seen(seen, alloc, key, None, Some(tree)),
+        Some((key, tree)) => note(noted, alloc, key, None, Some(tree)),
         None => Ok(()),
     }
 }
 
-// Keeps the child that crossed from those that are shown.
-fn keep_out(seen: &mut BTreeMap<Key, Seen>, alloc: Global, came: &Turned) -> Result<(), AllocError>
-    ensures { OnOk result (seen.new.entries ≡ seen_out came.now.crossed seen.old.entries) }
+// Notes the child that crossed from those that are shown.
+fn note_out(noted: &mut Vec<Seen>, alloc: Global, came: &Turned) -> Result<(), AllocError>
+    ensures { OnOk result (kept_by noted.new.items
+        ≡ seen_out came.now.crossed (kept_by noted.old.items)) }
 {
     match &came.crossed {
-        Some((key, tree)) => keep_seen(seen, alloc, key, Some(tree), None),
+        Some((key, tree)) => note(noted, alloc, key, Some(tree), None),
         None => Ok(()),
     }
 }
 
-// Keeps what is shown otherwise once a child left its place at a key and another one came there.
-pub fn keep_turned(
-    seen: &mut BTreeMap<Key, Seen>,
+// Notes what is shown otherwise once a child left its place at a key and another one came there.
+pub fn note_turned(
+    noted: &mut Vec<Seen>,
     alloc: Global,
     key: &Key,
     old: Option<&Tree>,
@@ -154,19 +176,48 @@ pub fn keep_turned(
     left: &Turned,
     came: &Turned,
 ) -> Result<(), AllocError>
-    ensures { OnOk result (seen.new.entries
+    ensures { OnOk result (kept_by noted.new.items
         ≡ seen_turned key.now (option_copied old.entry) new.now left.now came.now
-        seen.old.entries) }
+        (kept_by noted.old.items)) }
 {
-    keep_in(seen, alloc, left)?;
+    note_in(noted, alloc, left)?;
     let old = if left.was || came.was { old } else { None };
     let new = if came.is { Some(new) } else { None };
-    keep_seen(seen, alloc, key, old, new)?;
-    keep_out(seen, alloc, came)
+    note(noted, alloc, key, old, new)?;
+    note_out(noted, alloc, came)
+}
+
+// Whether the keys of what is noted rise.
+fn have_rising_keys(noted: &[Seen]) -> bool
+    ensures { result ≡ true → values_of (kept_by noted.now) ≡ noted.now }
+{
+    for next in 1..noted.len() {
+        if !noted[next - 1].key.cmp(&noted[next].key).is_lt() {
+            return false;
+        }
+    }
+    true
+}
+
+// What is noted, by the keys. Of what was shown under one the first counts, of what is shown the last.
+fn keep_all(alloc: Global, noted: &[Seen]) -> Result<BTreeMap<Key, Seen>, AllocError>
+    ensures { IfOk result (λ seen. seen.entries ≡ kept_by noted.now) }
+{
+    let mut seen = BTreeMap::new(alloc);
+    for one in noted {
+        keep_seen(
+            &mut seen,
+            alloc,
+            &one.key,
+            one.old.as_ref(),
+            one.new.as_ref(),
+        )?;
+    }
+    Ok(seen)
 }
 
 // What is kept, in the order of the keys.
-pub fn list_seen(alloc: Global, mut seen: BTreeMap<Key, Seen>) -> Result<Vec<Seen>, AllocError>
+fn list_seen(alloc: Global, mut seen: BTreeMap<Key, Seen>) -> Result<Vec<Seen>, AllocError>
     ensures { IfOk result (λ list. list.items ≡ values_of seen.entries) }
 {
     let mut list = Vec::with_capacity(alloc, seen.len())?;
@@ -176,37 +227,37 @@ pub fn list_seen(alloc: Global, mut seen: BTreeMap<Key, Seen>) -> Result<Vec<See
     Ok(list)
 }
 
-// Puts a child that is gone in its place.
+// What is noted, each key once, in their order. Where the keys rise already, it is this very list.
+pub fn in_key_order(alloc: Global, noted: Vec<Seen>) -> Result<Vec<Seen>, AllocError>
+    ensures { IfOk result (λ list. list.items ≡ values_of (kept_by noted.items)) }
+{
+    if have_rising_keys(noted.as_slice()) {
+        return Ok(noted);
+    }
+    let seen = keep_all(alloc, noted.as_slice())?;
+    list_seen(alloc, seen)
+}
+
+// Notes a child that is gone, at its place.
 fn put_gone(
-    gone: &mut BTreeMap<Position, Tree>,
+    gone: &mut Vec<(Position, Tree)>,
     alloc: Global,
     index: &Index,
     key: &Key,
     old: &Tree,
 ) -> Result<(), AllocError>
-    ensures { OnOk result (gone.new.entries
-        ≡ map_of.put entry_cmp (entry index.now (key.now, old.now)) old.now gone.old.entries) }
+    ensures { OnOk result (put_all gone.new.items
+        ≡ map_of.put entry_cmp (entry index.now (key.now, old.now)) old.now (put_all gone.old.items)) }
 {
     let position = Position::of(alloc, index, key, old)?;
     let old = old.copy(alloc)?;
-    set(gone, position, old)
-}
-
-// `insert`, without what was there.
-fn set_told(
-    now: &mut BTreeMap<Position, Told>,
-    position: Position,
-    told: Told,
-) -> Result<(), AllocError>
-    ensures { OnOk result (now.new.entries ≡ map_of.put entry_cmp position told now.old.entries) }
-{
-    now.insert(position, told)?;
+    gone.push((position, old))?;
     Ok(())
 }
 
-// Puts a child that is shown now in its place.
+// Notes a child that is shown now, at its place.
 fn put_told(
-    now: &mut BTreeMap<Position, Told>,
+    now: &mut Vec<(Position, Told)>,
     alloc: Global,
     index: &Index,
     window: &Window,
@@ -215,41 +266,43 @@ fn put_told(
     new: &Tree,
 ) -> Result<(), AllocError>
     requires { has window.now.children.range (entry index.now (key.now, new.now)) ≡ true }
-    ensures { OnOk result (now.new.entries
+    ensures { OnOk result (put_all now.new.items
         ≡ map_of.put entry_cmp (entry index.now (key.now, new.now)) (record {
           old =
               option_copied old.entry;
           new = new.now;
           after =
               before (entry index.now (key.now, new.now)) (shown_in window.now);
-        }) now.old.entries) }
+        }) (put_all now.old.items)) }
 {
     let position = Position::of(alloc, index, key, new)?;
     let after = copy_key(window.before(&position))?;
     let old = copy_tree(alloc, old)?;
     let new = new.copy(alloc)?;
-    set_told(now, position, Told { old, new, after })
+    now.push((position, Told { old, new, after }))?;
+    Ok(())
 }
 
 // Finds what is told of one more noted child.
 fn find_told(
-    noted: &mut Noted,
+    gone: &mut Vec<(Position, Tree)>,
+    now: &mut Vec<(Position, Told)>,
     alloc: Global,
     index: &Index,
     window: &Window,
     seen: &Seen,
 ) -> Result<(), AllocError>
     requires { IsSeenIn window.now.children.range index.now seen.now }
-    ensures gone { OnOk result (noted.new.gone.entries ≡ gone_too index.now seen.now.key
-        (gone_at seen.now.new seen.now.old) noted.old.gone.entries) }
-    ensures now { OnOk result (noted.new.now.entries ≡ told_too index.now
+    ensures gone { OnOk result (put_all gone.new.items ≡ gone_too index.now seen.now.key
+        (gone_at seen.now.new seen.now.old) (put_all gone.old.items)) }
+    ensures now { OnOk result (put_all now.new.items ≡ told_too index.now
         seen.now.key seen.now.old (shown_in window.now)
-        seen.now.new noted.old.now.entries) }
+        seen.now.new (put_all now.old.items)) }
 {
     let key = &seen.key;
     match (seen.old.as_ref(), seen.new.as_ref()) {
-        (old, Some(new)) => put_told(&mut noted.now, alloc, index, window, key, old, new),
-        (Some(old), None) => put_gone(&mut noted.gone, alloc, index, key, old),
+        (old, Some(new)) => put_told(now, alloc, index, window, key, old, new),
+        (Some(old), None) => put_gone(gone, alloc, index, key, old),
         (None, None) => Ok(()),
     }
 }
@@ -264,19 +317,19 @@ pub fn find_all_told(
     requires { All (IsSeenIn window.now.children.range query.now.index) seen.now }
     ensures gone { IfOk result (λ noted. (known t : PathTree)
         → IsWindowOf query.now known window.now → All (IsSeen t (shown_in window.now)) seen.now
-        → noted.gone.entries ≡ gone_from (keys_in seen.now) (shown_in window.now)
+        → noted.gone.items ≡ gone_from (keys_in seen.now) (shown_in window.now)
         (rows_in_tree query.now.index t)) }
     ensures now { IfOk result (λ noted. (known t : PathTree)
         → IsWindowOf query.now known window.now → All (IsSeen t (shown_in window.now)) seen.now
-        → noted.now.entries ≡ told_in t (shown_in window.now)
+        → noted.now.items ≡ told_in t (shown_in window.now)
         (noted_in (keys_in seen.now) (shown_in window.now))) }
 {
-    let mut noted = Noted {
-        gone: BTreeMap::new(alloc),
-        now: BTreeMap::new(alloc),
-    };
+    let mut gone = Vec::new(alloc);
+    let mut now = Vec::new(alloc);
     for one in seen {
-        find_told(&mut noted, alloc, query.index(), window, one)?;
+        find_told(&mut gone, &mut now, alloc, query.index(), window, one)?;
     }
-    Ok(noted)
+    let gone = in_order(alloc, gone)?;
+    let now = in_order(alloc, now)?;
+    Ok(Noted { gone, now })
 }

@@ -11,20 +11,19 @@ ghost use Rattle.rt_view.specs.inside.Windows.{Becomes, IsListed, IsWhole, all_o
 ghost use Rattle.rt_view.specs.inside.Windows.{shown_in, value_at};
 ghost use Rattle.rt_view.specs.inside.Turns.{Comes, Leaves, Stands, Values};
 ghost use Rattle.rt_view.specs.inside.Kept.{IsWindowOf, brought_in, wholly};
-ghost use Rattle.rt_view.specs.inside.Telling.{AllSeen, KeepsSeen, left_by, takes_place};
+ghost use Rattle.rt_view.specs.inside.Telling.{AllSeen, KeepsSeen, kept_by, left_by, takes_place};
 
 use crate::alone::changes_alone;
 use crate::change_list::ChangeList;
 use crate::place::{child_at, copy_leaf, put_child};
 use crate::position::Position;
 use crate::tell::{tell_filtered, tell_plain, with_value};
-use crate::told::{Seen, copy_tree, keep_turned, list_seen};
+use crate::told::{Seen, copy_tree, in_key_order, note_turned};
 use crate::window::{Turned, Window};
 use rt_order::{Index, sort_value, value_cmp};
 use rt_query::Query;
 use rt_tree::{Key, MAX_KEYS, Tree};
 use std::alloc::{AllocError, Global};
-use std::collections::BTreeMap;
 
 // Whether a child that comes takes the place of the one that stood at its key.
 fn takes_place(index: &Index, old: &Tree, new: &Tree) -> bool
@@ -124,11 +123,11 @@ fn touch_alone(
 }
 
 // Puts a child in the place of the one at its key, in the known tree and in its window. What stood at the
-// key is found once; what is shown otherwise since, there and for the cut that moves, is kept.
+// key is found once; what is shown otherwise since, there and for the cut that moves, is noted.
 fn touch_child(
     known: &mut Tree,
     window: &mut Window,
-    seen: &mut BTreeMap<Key, Seen>,
+    noted: &mut Vec<Seen>,
     alloc: Global,
     query: &Query,
     key: &Key,
@@ -139,17 +138,17 @@ fn touch_child(
     ensures put { OnOk result (known.new ≡ put known.old (key.now ∷ []) child.now) }
     ensures kept { OnOk result (IsWindowOf query.now known.new window.new) }
     ensures seen { OnOk result ((first : Values)
-        → KeepsSeen first (value_at (shown_in window.old)) seen.old.entries
-        → KeepsSeen first (value_at (shown_in window.new)) seen.new.entries) }
+        → KeepsSeen first (value_at (shown_in window.old)) (kept_by noted.old.items)
+        → KeepsSeen first (value_at (shown_in window.new)) (kept_by noted.new.items)) }
 {
     let old = copy_tree(alloc, child_at(known, key))?;
     let left = take_out(window, alloc, query, key, old.as_ref(), child)?;
     let came = bring_in(window, alloc, query, key, child)?;
     put_child(known, alloc, key, child)?;
-    keep_turned(seen, alloc, key, old.as_ref(), child, &left, &came)
+    note_turned(noted, alloc, key, old.as_ref(), child, &left, &came)
 }
 
-// Puts the named children in their places. What was and what is shown is kept by the keys under which
+// Puts the named children in their places. What was and what is shown is noted under the keys where
 // that may differ, in their order.
 fn touch_all(
     known: &mut Tree,
@@ -165,11 +164,11 @@ fn touch_all(
     ensures seen { IfOk result (λ seen.
         AllSeen (shown_in window.old) (shown_in window.new) seen.items) }
 {
-    let mut seen = BTreeMap::new(alloc);
+    let mut noted = Vec::with_capacity(alloc, named.len())?;
     for (key, child) in named {
-        touch_child(known, window, &mut seen, alloc, query, key, child)?;
+        touch_child(known, window, &mut noted, alloc, query, key, child)?;
     }
-    list_seen(alloc, seen)
+    in_key_order(alloc, noted)
 }
 
 // Puts the named children in their places, and tells what changes. The query isn't filtered, so the

@@ -20,7 +20,6 @@ use rt_order::Range;
 use rt_query::{Limit, Row};
 use rt_tree::{Key, Tree};
 use std::alloc::{AllocError, Global};
-use std::collections::BTreeMap;
 
 // All children that are known, in the order of their entries, with the cut up to which the limit shows
 // those in the range: the first of these in front of it, or the last of them behind it.
@@ -89,19 +88,6 @@ impl Turned {
             crossed,
         }
     }
-}
-
-// `insert`, without the old child.
-pub fn set(
-    children: &mut BTreeMap<Position, Tree>,
-    position: Position,
-    tree: Tree,
-) -> Result<(), AllocError>
-    ensures { OnOk result (children.new.entries
-        ≡ map_of.put entry_cmp position tree children.old.entries) }
-{
-    children.insert(position, tree)?;
-    Ok(())
 }
 
 // These children in order. No memory is asked for.

@@ -1,7 +1,7 @@
 -- What is told of the noted children, each found once.
 use Rattle.std.specs.Prelude.{◌≡◌, ◌≤◌, Bool, true, false, not, ◌&&◌, ◌||◌, if◌then◌else◌, List, [], map, Option}
 use Rattle.std.specs.Prelude.{Some, None, IfSome, T}
-use Rattle.std.specs.List.{All, filter}
+use Rattle.std.specs.List.{All, filter, fold}
 use Rattle.std.specs.Ordering.{is_eq}
 use Rattle.std.specs.FinMap as map_of
 use Rattle.std.specs.FinMap.Entries.{find, is_sorted}
@@ -94,6 +94,10 @@ abbrev pub seen_turned : Key → Option PathTree → PathTree → Turned → Tur
 seen_turned k old new left came es = seen_out came.crossed
     (seen_too k (if left.was || came.was then old else None) (shown_if came.is new) (seen_in left.crossed es))
 
+-- with what is noted one after another: of what was shown under a key the first counts, of what is shown the last
+abbrev pub kept_by : List Seen → List (Key × Seen)
+kept_by seen = fold (λ es s. seen_too s.key s.old s.new es) [] seen
+
 -- what is kept by a key says what was and is shown there; where nothing is kept that is the same
 abbrev pub IsKeptBy : Values → Values → Key → Option Seen → Type 0
 IsKeptBy old new k None = new k ≡ old k
@@ -116,6 +120,10 @@ told_of old shown e = record {
 
 abbrev pub told_in : PathTree → Entries → Entries → List (Entry × Told)
 told_in old shown es = map (λ e. (e.0, told_of old shown e)) es
+
+-- children with their places, each put there
+abbrev pub put_all : {V : Type 0} → List (Entry × V) → List (Entry × V)
+put_all children = fold (λ es c. map_of.put entry_cmp c.0 c.1 es) [] children
 
 -- the child that is shown under one more key, if there is one
 abbrev pub told_too : Index → Key → Option PathTree → Entries → Option PathTree

@@ -22,10 +22,10 @@ returns c known t kept seen =
     let new = map row_of shown in
     let listed = listed-window q known c.args.window.now kept in
     let index = c.index-index.ensures in
-    let all : (k : Kind) → given_of k c.index-index.result.now c.in_ok-found.found.now.entries ≡ placed_changes (is_given k q.index) (change_of k) old new =
-    λ k. (λ i. given_of k (index i) (c.in_ok-found.ensures.now known t kept seen.each i)) ∙ given_of-told k q.index t shown (noted_in ks shown) ∙ given-all k q.index t ks shown listed seen.notes in
+    let all : (k : Kind) → given_of k c.index-index.result.now c.as_slice-now.result.now ≡ placed_changes (is_given k q.index) (change_of k) old new =
+    λ k. (λ i. given_of k (index i) ((c.as_slice-now.ensures.value ∙ c.in_ok-found.ensures.now known t kept seen.each) i)) ∙ given_of-told k q.index t shown (noted_in ks shown) ∙ given-all k q.index t ks shown listed seen.notes in
     let removed : c.push_removed.new.changes.items ≡ removals old new =
-    c.in_ok-push_removed.ensures ∙ (λ i. c.new-changes.ensures.items i ++ map removed_of (c.in_ok-found.ensures.gone known t kept seen.each i)) ∙ removed-all q.index t ks shown (listed-children q.index t) seen.notes in
+    c.in_ok-push_removed.ensures ∙ (λ i. c.new-changes.ensures.items i ++ map removed_of ((c.as_slice.ensures.value ∙ c.in_ok-found.ensures.gone known t kept seen.each) i)) ∙ removed-all q.index t ks shown (listed-children q.index t) seen.notes in
     let added : c.push_given.new.changes.items ≡ removals old new ++ placed_changes is_added Added old new =
     c.in_ok-push_given.ensures ∙ (λ i. removed i ++ all kind.Added i) in
     let moved : c.push_given-2.new.changes.items ≡ removals old new ++ placed_changes is_added Added old new ++ placed_changes (is_moved q.index) Moved old new =

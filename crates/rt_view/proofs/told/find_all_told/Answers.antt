@@ -5,7 +5,7 @@ use Rattle.rt_tree.specs.PathTree.{Key}
 use Rattle.rt_view.specs.declared.told.Seen.{Seen}
 use Rattle.rt_view.specs.inside.Windows.{Entries, shown_in}
 use Rattle.rt_view.specs.inside.Kept.{gone_at, gone_from, noted_in, rows_in_tree}
-use Rattle.rt_view.specs.inside.Telling.{IsSeen, gone_too, keys_in, told_in, told_too}
+use Rattle.rt_view.specs.inside.Telling.{IsSeen, gone_too, keys_in, put_all, told_in, told_too}
 use Rattle.rt_view.proofs.Listed.{listed-children, value_at-children}
 use Rattle.rt_view.proofs.TellLaws.{next_taken, keys_in-more, gone_also, told_also, noted_nothing, gone_nothing}
 use Rattle.rt_view.proofs.TreeLaws.{listed-window}
@@ -13,8 +13,8 @@ use Rattle.rt_view.proofs.told.find_all_told.Goals as goal
 
 pub loop-one-init : goal.loop-one-init
 loop-one-init c known t kept had = (
-  c.new.ensures.empty ∙ sym (gone_nothing (shown_in c.args.window.now) (rows_in_tree c.args.query.now.index t)),
-  c.new-2.ensures.empty ∙ ap (told_in t (shown_in c.args.window.now)) (sym (noted_nothing (shown_in c.args.window.now))),
+  ap put_all c.new-gone.ensures.items ∙ sym (gone_nothing (shown_in c.args.window.now) (rows_in_tree c.args.query.now.index t)),
+  ap put_all c.new-now.ensures.items ∙ ap (told_in t (shown_in c.args.window.now)) (sym (noted_nothing (shown_in c.args.window.now))),
 )
 
 pub loop-one-preserved : goal.loop-one-preserved
@@ -40,10 +40,10 @@ loop-one-preserved c known t kept had =
 
 pub returns-clause-gone : goal.returns-clause-gone
 returns-clause-gone c known t kept had =
-    (c.loop-one.invariant known t kept had).0
+    c.in_ok-gone.ensures ∙ (c.loop-one.invariant known t kept had).0
     ∙ ap (λ ws. gone_from (keys_in ws) (shown_in c.args.window.now) (rows_in_tree c.args.query.now.index t)) (take_all c.loop-one.one-index c.args.seen.now c.loop-one-test.false)
 
 pub returns-clause-now : goal.returns-clause-now
 returns-clause-now c known t kept had =
-    (c.loop-one.invariant known t kept had).1
+    c.in_ok-now.ensures ∙ (c.loop-one.invariant known t kept had).1
     ∙ ap (λ ws. told_in t (shown_in c.args.window.now) (noted_in (keys_in ws) (shown_in c.args.window.now))) (take_all c.loop-one.one-index c.args.seen.now c.loop-one-test.false)

@@ -3,7 +3,7 @@ use Rattle.std.proofs.lemmas.List.{drop_more}
 use Rattle.std.proofs.lemmas.Result.{IfOk-weaker}
 use Rattle.rt_tree.specs.PathTree.{Key, PathTree, put}
 use Rattle.rt_view.specs.Views.{with_named}
-use Rattle.rt_view.specs.inside.Telling.{AllSeen}
+use Rattle.rt_view.specs.inside.Telling.{AllSeen, kept_by}
 use Rattle.rt_view.specs.inside.Windows.{value_at, shown_in}
 use Rattle.rt_view.proofs.SeenLaws.{keeps_all}
 use Rattle.rt_view.proofs.touch.touch_all.Goals as goal
@@ -25,6 +25,6 @@ pub returns-clause-seen : goal.returns-clause-seen
 returns-clause-seen c =
     let before = shown_in c.args.window.now in
     let after = shown_in c.loop-key.window in
-    IfOk-weaker c.list_seen.result _ _
-    (λ list told. subst (AllSeen before after) (sym told) (keeps_all before after c.loop-key.seen.entries c.loop-key.invariant.2))
-    c.list_seen.ensures
+    IfOk-weaker c.in_key_order.result _ _
+    (λ list told. subst (AllSeen before after) (sym told) (keeps_all before after (kept_by c.loop-key.noted.items) c.loop-key.invariant.2))
+    c.in_key_order.ensures

@@ -3,7 +3,7 @@ use Rattle.std.specs.Option.{option_copied}
 use Rattle.std.proofs.lemmas.Result.{IfOk-weaker}
 use Rattle.rt_tree.specs.PathTree.{PathTree, child_of}
 use Rattle.rt_tree.specs.Children.{children_of}
-use Rattle.rt_view.specs.inside.Telling.{KeepsSeen, seen_turned}
+use Rattle.rt_view.specs.inside.Telling.{KeepsSeen, kept_by, seen_turned}
 use Rattle.rt_view.specs.inside.Windows.{value_at, shown_in}
 use Rattle.rt_view.proofs.CrossLaws.{listed_left, shown_known}
 use Rattle.rt_view.proofs.SeenLaws.{keeps_turned}
@@ -13,13 +13,13 @@ use Rattle.rt_view.proofs.touch.touch_child.Goals as goal
 pub returns-clause-kept : goal.returns-clause-kept
 returns-clause-kept c =
     let old : option_copied c.as_ref.result ≡ child_of (children_of c.args.known.now) c.args.key.now = search rules in
-    IfOk-weaker c.keep_turned.result _ _
+    IfOk-weaker c.note_turned.result _ _
     (λ x told. touched_window c.args.query.now c.args.known.now c.put_child.new.tree c.args.key.now c.args.child.now (option_copied c.as_ref.result)
     c.args.window.now c.take_out.new.window c.bring_in.new.window c.requires.kept old
     (record { limit = c.in_ok-left.ensures.limit; range = c.in_ok-left.ensures.range; known = c.in_ok-left.ensures.known; cut = c.in_ok-left.ensures.taken })
     (record { limit = c.in_ok-came.ensures.limit; range = c.in_ok-came.ensures.range; known = c.in_ok-came.ensures.known; cut = c.in_ok-came.ensures.put })
     c.in_ok-put_child.ensures)
-    c.keep_turned.ensures
+    c.note_turned.ensures
 
 pub returns-clause-seen : goal.returns-clause-seen
 returns-clause-seen c =
@@ -34,9 +34,9 @@ returns-clause-seen c =
     let listed = listed_left q t k (option_copied c.as_ref.result) c.args.child.now before mid c.requires.kept c.in_ok-left.ensures.taken in
     let comes = c.in_ok-came.ensures.comes listed leaves.stands in
     let same : option_copied c.as_ref-2.result ≡ option_copied c.as_ref.result = search rules in
-    let kept = ap (λ (o : Option PathTree). seen_turned k o c.args.child.now c.in_ok-left.left c.in_ok-came.came c.args.seen.now.entries) same in
-    IfOk-weaker c.keep_turned.result _ _
+    let kept = ap (λ (o : Option PathTree). seen_turned k o c.args.child.now c.in_ok-left.left c.in_ok-came.came (kept_by c.args.noted.now.items)) same in
+    IfOk-weaker c.note_turned.result _ _
     (λ x told f h. subst (KeepsSeen f (value_at (shown_in after))) (sym (told ∙ kept))
     (keeps_turned f q k (option_copied c.as_ref.result) c.args.child.now c.in_ok-left.left c.in_ok-came.came (shown_in before) (shown_in mid) (shown_in after)
-    leaves comes (λ v g. old ∙ (shown_known q t before k v c.requires.kept g).0) c.args.seen.now.entries h))
-    c.keep_turned.ensures
+    leaves comes (λ v g. old ∙ (shown_known q t before k v c.requires.kept g).0) (kept_by c.args.noted.now.items) h))
+    c.note_turned.ensures
