@@ -25,6 +25,7 @@ pub mod RunLaws
 pub mod SpotLaws
 pub mod StandingLaws
 pub mod TakingLaws
+pub mod TextLengths
 pub mod ToOne
 pub mod TouchLaws
 pub mod TurnLaws

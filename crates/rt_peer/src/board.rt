@@ -2,12 +2,14 @@
 ghost use Rattle.std.specs.Prelude.{◌≡◌, ◌==◌, not, length, [], IfOk, OnOk};
 ghost use Rattle.std.specs.List.{All, filter};
 ghost use Rattle.rt_writes.specs.Writes.{IsShallow};
+ghost use Rattle.rt_peer.specs.Lengths.{capped, text_length};
 ghost use Rattle.rt_peer.specs.Peers.{in_place, is_at, is_before};
 ghost use Rattle.rt_peer.specs.Pushes.{pushes, written};
 ghost use Rattle.rt_peer.specs.inside.Spots.{listen_of};
 
 use crate::heard::Heard;
 use crate::listen::Listens;
+use crate::measured::Measured;
 use crate::pushes::push_all;
 use crate::sent::Sent;
 use crate::spots::Owner;
@@ -18,10 +20,10 @@ use std::alloc::{AllocError, Global};
 use std::marker::Model;
 use std::mem::replace;
 
-// The tree, the listens, and a view for each filtered query that a write has met since somebody came to listen to
+// The tree with its length, the listens, and a view for each filtered query that a write has met since somebody came to listen to
 // it, or left.
 pub(crate) struct Board {
-    tree: Tree,
+    tree: Measured,
     listens: Listens,
     views: Views,
 }
@@ -52,7 +54,7 @@ impl Board {
         ensures { result ≡ record { tree = tree; listens = [] } }
     {
         Board {
-            tree,
+            tree: Measured::of(tree),
             listens: Listens::new(alloc),
             views: Views::new(alloc),
         }
@@ -61,7 +63,28 @@ impl Board {
     pub(crate) fn tree(&self) -> &Tree
         ensures { result.now ≡ self.now.tree }
     {
-        &self.tree
+        self.tree.tree()
+    }
+
+    // How many bytes the tree has as JSON; the largest number where it has more.
+    pub(crate) fn text_len(&self) -> usize
+        ensures { result ≡ capped (text_length self.now.tree) }
+    {
+        self.tree.text_len()
+    }
+
+    // How many it would have with the entries.
+    pub(crate) fn text_len_with(
+        &self,
+        alloc: Global,
+        entries: &[(Path, Tree)],
+    ) -> Result<usize, AllocError>
+        requires { All IsShallow entries.now }
+        ensures { IfOk result (λ len. len ≡ capped (text_length (written self.now.tree entries.now))) }
+    {
+        let mut after = self.tree.copy(alloc)?;
+        after.put_all(alloc, entries)?;
+        Ok(after.text_len())
     }
 
     // How many listens the connection has.

@@ -3,7 +3,10 @@ ghost use Rattle.std.specs.Prelude.{◌≡◌, ◌==◌, ◌<◌, ◌≤◌, ◌
 ghost use Rattle.std.specs.Prelude.{IfOk, IfErr, IfSome, OnErr, Some, None, Ok, Err};
 ghost use Rattle.std.specs.Result.{result_err};
 ghost use Rattle.rt_peer.specs.Peers.{is_known, least_free, new_peer};
-ghost use Rattle.std.specs.List.{filter};
+ghost use Rattle.std.specs.List.{All, filter};
+ghost use Rattle.rt_writes.specs.Writes.{IsShallow};
+ghost use Rattle.rt_peer.specs.Lengths.{capped, text_length};
+ghost use Rattle.rt_peer.specs.Pushes.{seen, written};
 ghost use Rattle.rt_peer.specs.Calls.{actions_of, answered, connected, disconnected, fault};
 ghost use Rattle.rt_peer.specs.Turns.{is_last_turn, turned};
 
@@ -11,8 +14,10 @@ use crate::error::PeerError;
 use crate::held::Held;
 use crate::sent::Sent;
 use crate::state::State;
+use rt_query::Query;
 use rt_tree::{Path, Tree};
 use rt_wire::ClientMessage;
+use std::alloc::AllocError;
 use std::marker::Model;
 
 /// A server of one tree: it keeps the listens of its connections, takes their writes, and tells each
@@ -61,6 +66,34 @@ impl Peer {
         ensures { IfSome self.now (λ p. result.now ≡ p.tree) }
     {
         self.state.tree()
+    }
+
+    // For the hub: how many bytes the tree has as JSON, and the largest number of this type where it has more. The
+    // number is kept beside the tree.
+    pub fn text_len(&self) -> usize
+        ensures { IfSome self.now (λ p. result ≡ capped (text_length p.tree)) }
+    {
+        self.state.text_len()
+    }
+
+    // For the hub: how many bytes the tree would have as JSON with these entries, put one after another, and the
+    // largest number of this type where it would have more. Costs by the entries' paths, by what they write and by
+    // what stands there. Where memory lacks the peer stays as it is.
+    pub fn text_len_with(&self, entries: &[(Path, Tree)]) -> Result<usize, AllocError>
+        requires { All IsShallow entries.now }
+        ensures { IfOk result (λ len. IfSome self.now
+            (λ p. len ≡ capped (text_length (written p.tree entries.now)))) }
+    {
+        self.state.text_len_with(entries)
+    }
+
+    // For the hub: how many bytes has as JSON what the query shows of the tree, and the largest number of this type
+    // where it has more. Walks what it shows. Where memory lacks the peer stays as it is.
+    pub fn seen_len(&self, query: &Query) -> Result<usize, AllocError>
+        ensures { IfOk result (λ len. IfSome self.now
+            (λ p. len ≡ capped (text_length (seen query.now p.tree)))) }
+    {
+        self.state.seen_len(query)
     }
 
     /// How many listens and actions the connection has: none where it is not known.

@@ -1,9 +1,8 @@
-// What queries show of a tree, and what writes make of it.
-ghost use Rattle.std.specs.Prelude.{◌≡◌, IfOk, OnOk};
-ghost use Rattle.std.specs.List.{All};
+// What queries show of a tree, and what an entry makes of it.
+ghost use Rattle.std.specs.Prelude.{◌≡◌, IfOk, OnOk, OnErr};
 ghost use Rattle.rt_tree.specs.PathTree.{sub, put};
 ghost use Rattle.rt_writes.specs.Writes.{IsShallow};
-ghost use Rattle.rt_peer.specs.Pushes.{seen, written};
+ghost use Rattle.rt_peer.specs.Pushes.{seen};
 
 use rt_query::Query;
 use rt_tree::{Path, Tree, TreeError};
@@ -32,9 +31,15 @@ pub(crate) fn seen(alloc: Global, query: &Query, tree: &Tree) -> Result<Tree, Al
 }
 
 // Puts one entry. Path and tree are short enough together, so only memory can refuse.
-fn put_entry(alloc: Global, tree: &mut Tree, path: &Path, entry: &Tree) -> Result<(), AllocError>
+pub(crate) fn put_entry(
+    alloc: Global,
+    tree: &mut Tree,
+    path: &Path,
+    entry: &Tree,
+) -> Result<(), AllocError>
     requires { IsShallow (path.now, entry.now) }
-    ensures { OnOk result (tree.new ≡ put tree.old path.now entry.now) }
+    ensures ok { OnOk result (tree.new ≡ put tree.old path.now entry.now) }
+    ensures err { OnErr result (tree.new ≡ tree.old) }
 {
     let entry = entry.copy(alloc)?;
     match tree.put(alloc, path, entry) {
@@ -42,19 +47,4 @@ fn put_entry(alloc: Global, tree: &mut Tree, path: &Path, entry: &Tree) -> Resul
         Err(TreeError::NoMemory) => Err(AllocError),
         Err(_) => unreachable!(),
     }
-}
-
-// Puts each entry, in order.
-pub(crate) fn put_all(
-    alloc: Global,
-    tree: &mut Tree,
-    entries: &[(Path, Tree)],
-) -> Result<(), AllocError>
-    requires { All IsShallow entries.now }
-    ensures { OnOk result (tree.new ≡ written tree.old entries.now) }
-{
-    for (path, entry) in entries {
-        put_entry(alloc, tree, path, entry)?;
-    }
-    Ok(())
 }

@@ -5,8 +5,10 @@ ghost use Rattle.std.specs.List.{All, filter, list_any};
 ghost use Rattle.std.specs.Option.{option_copied};
 ghost use Rattle.rt_writes.specs.Writes.{IsShallow};
 ghost use Rattle.rt_wire.specs.declared.server.ServerMessage.TheVariants as ServerMessage;
+ghost use Rattle.rt_peer.specs.Lengths.{capped, text_length};
 ghost use Rattle.rt_peer.specs.Peers.{is_denied, is_known, least_free, new_peer};
-ghost use Rattle.rt_peer.specs.Pushes.{bundled, pushes, pushes_after, tree_after, written};
+ghost use Rattle.rt_peer.specs.Pushes.{bundled, pushes, pushes_after, seen as shown, tree_after};
+ghost use Rattle.rt_peer.specs.Pushes.{written};
 ghost use Rattle.rt_peer.specs.Calls.{actions_of, answered, asked as outcome, cancelled, connected};
 ghost use Rattle.rt_peer.specs.Calls.{deferred, disconnected, ended, greeted, is_bad, kept, listened};
 ghost use Rattle.rt_peer.specs.Calls.{one, refusal, unlistened, wrote};
@@ -20,6 +22,7 @@ use crate::connections::Connections;
 use crate::deferred::{Actions, Deferred};
 use crate::heard::Heard;
 use crate::held::Held;
+use crate::lengths::text_len;
 use crate::rising::Rising;
 use crate::sent::Sent;
 use crate::shown::seen;
@@ -91,6 +94,29 @@ impl State {
         ensures { result.now ≡ self.now.tree }
     {
         self.board.tree()
+    }
+
+    // How many bytes the tree has as JSON; the largest number where it has more.
+    pub(crate) fn text_len(&self) -> usize
+        ensures { result ≡ capped (text_length self.now.tree) }
+    {
+        self.board.text_len()
+    }
+
+    // How many it would have with the entries.
+    pub(crate) fn text_len_with(&self, entries: &[(Path, Tree)]) -> Result<usize, AllocError>
+        requires { All IsShallow entries.now }
+        ensures { IfOk result (λ len. len ≡ capped (text_length (written self.now.tree entries.now))) }
+    {
+        self.board.text_len_with(self.alloc(), entries)
+    }
+
+    // How many bytes has as JSON what the query shows; the largest number where it has more.
+    pub(crate) fn seen_len(&self, query: &Query) -> Result<usize, AllocError>
+        ensures { IfOk result (λ len. len ≡ capped (text_length (shown query.now self.now.tree))) }
+    {
+        let shown = seen(self.alloc(), query, self.board.tree())?;
+        Ok(text_len(&shown))
     }
 
     pub(crate) fn knows(&self, connection: u64) -> bool

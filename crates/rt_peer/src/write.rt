@@ -4,7 +4,7 @@ ghost use Rattle.std.specs.List.{All};
 ghost use Rattle.rt_writes.specs.Writes.{IsShallow};
 ghost use Rattle.rt_peer.specs.Pushes.{written};
 
-use crate::shown::put_all;
+use crate::measured::Measured;
 use rt_tree::{Path, Tree};
 use std::alloc::{AllocError, Global};
 
@@ -27,7 +27,7 @@ impl Write {
     // Puts the entries into the tree.
     pub(crate) fn of(
         alloc: Global,
-        tree: &mut Tree,
+        tree: &mut Measured,
         entries: &[(Path, Tree)],
     ) -> Result<Write, AllocError>
         requires { All IsShallow entries.now }
@@ -35,9 +35,9 @@ impl Write {
         ensures before { IfOk result (λ write. write.before ≡ tree.old) }
         ensures after { IfOk result (λ write. write.after ≡ tree.new) }
     {
-        let before = tree.copy(alloc)?;
-        put_all(alloc, tree, entries)?;
-        let after = tree.copy(alloc)?;
+        let before = tree.tree().copy(alloc)?;
+        tree.put_all(alloc, entries)?;
+        let after = tree.tree().copy(alloc)?;
         Ok(Write { before, after })
     }
 }
