@@ -404,6 +404,31 @@ def too_many_listens_are_refused(program, _room, most=131_072):
         must("how it ends", it.end(), (0, b""))
 
 
+def trees_too_long_are_refused(program, _room):
+    """A write that makes the tree's text longer than one that is sent is refused, and changes nothing. What a client asked for its end may make it so:
+    then a listen that shows it all is revoked, and one that shows a part is not."""
+    why = "a tree of more than 67108864 bytes"
+    part, gone = {f"k{n}": "y" * 65_000 for n in range(249)}, (TEXT, {"k": "revoke", "tag": 1, "why": why})
+    with Emulator(program) as it:
+        one, other = Client(it.port), Client(it.port)
+        for number in range(1, 5):
+            must("a write of 16 MB", asked(one, put(number, f"/p{number}", part)), ok(number))
+        must("one too many", asked(one, put(5, "/p5", part)), no(5, why))
+        must("one in the place of another", asked(one, put(6, "/p1", {**part, "k0": "z"})), ok(6))
+        must("a short one", asked(one, put(7, "/p5", 1)), ok(7))
+        must("a listen to come", asked(one, {"k": "listen", "path": "/p5/k0", "tag": 2}), data("/p5/k0", None, 2))
+        must("one for the end", asked(other, {**put(1, "/p5", part), "k": "od-put"}), ok(1))
+        resets(other)
+        must("what the end writes", one.text(), data("/p5/k0", part["k0"], 2))
+        must("a listen to all", asked(one, {**LISTEN, "path": "/"}), gone)
+        must("a listen to a part", asked(one, {**LISTEN, "path": "/p1/k0"}), data("/p1/k0", "z"))
+        must("a short one then", asked(one, put(8, "/p6", 1)), no(8, why))
+        must("what the end of a part takes out", asked(one, put(9, "/p5", None)), data("/p5/k0", None, 2))
+        must("the end of a part", one.text(), ok(9))
+        must("a short one at last", asked(one, put(10, "/p6", 1)), ok(10))
+        must("how it ends", it.end(), (0, b""))
+
+
 def ends_take_turns(program, _room, count=30_000):
     """What a client asked for its end is done in turns and in order: others are served between, and one that reads it all is not too slow."""
     with Emulator(program) as it:
@@ -732,6 +757,7 @@ SESSIONS = [
     slow_ones_are_ended,
     slowest_are_ended,
     too_many_listens_are_refused,
+    trees_too_long_are_refused,
     ends_take_turns,
     floods_hold_nobody_up,
     descriptors_come_back,

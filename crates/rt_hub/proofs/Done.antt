@@ -12,9 +12,9 @@ use Rattle.rt_peer.specs.Peers.{Peer, is_known, least_free}
 use Rattle.rt_peer.specs.Calls.{Outcome, answered, connected, fault, one}
 use Rattle.rt_peer.specs.Runs.{Call, Connect, Message, EndSome, outcome}
 use Rattle.rt_peer.specs.Turns.{connections_after, is_last_turn, turned}
-use Rattle.rt_wire.specs.declared.server.ServerMessage.TheVariants.{Refused}
 use Rattle.rt_hub.specs.declared.bounds.Bounds.{Bounds}
-use Rattle.rt_hub.specs.Bounded.{bounded, surplus, too_many, unless_surplus}
+use Rattle.rt_hub.specs.Bounded.{bar_of, bounded, said_by, unless_barred}
+use Rattle.rt_hub.specs.declared.bar.Bar.{Bar}
 use Rattle.rt_hub.specs.Hubs.{IsMade, left_line, receivers}
 use Rattle.rt_hub.specs.Lines.{Line, checked, empty_line, is_full, line_of, over_line, text_of, texts_to}
 use Rattle.rt_hub.specs.Lines.{told_more, with_text, with_texts, without_first}
@@ -214,22 +214,22 @@ began b (Some p) q had has n lined is now ch =
     })
 
 -- what a known connection says, and its end, are calls of the hub's peer
-is_message : (p : Peer) (n : ℕ) (m : ClientMessage) → fault (Some p) n ≡ None → surplus p n m ≡ None
+is_message : (p : Peer) (n : ℕ) (m : ClientMessage) → fault (Some p) n ≡ None → bar_of p n m ≡ None
     → answered p n m ≡ bounded p (Message n m)
 is_message p n m known none =
     ap (λ (t : Bool). let o : Outcome = if t then answered p n m else (p, []) in o)
     (sym (known_of p n known))
-    ∙ ap (λ s. unless_surplus s p n (outcome p (Message n m))) (sym none)
+    ∙ ap (λ s. unless_barred s p n (outcome p (Message n m))) (sym none)
 
--- what a test for one request too many says
-pub surplus_is : (o : Option Peer) (n : ℕ) (m : ClientMessage) (r i : Option ℕ)
-    → IfSome o (λ p. r ≡ surplus p n m) → r ≡ i → IfSome o (λ p. surplus p n m ≡ i)
-surplus_is None n m r i h e = tt
-surplus_is (Some p) n m r i h e = sym h ∙ e
+-- what a test for a message that the hub answers itself says
+pub bar_is : (o : Option Peer) (n : ℕ) (m : ClientMessage) (r i : Option Bar)
+    → IfSome o (λ p. r ≡ bar_of p n m) → r ≡ i → IfSome o (λ p. bar_of p n m ≡ i)
+bar_is None n m r i h e = tt
+bar_is (Some p) n m r i h e = sym h ∙ e
 
-is_refused : (p : Peer) (n id : ℕ) (m : ClientMessage) → surplus p n m ≡ Some id
-    → (p, one n (Refused id too_many)) ≡ bounded p (Message n m)
-is_refused p n id m e = ap (λ s. unless_surplus s p n (outcome p (Message n m))) (sym e)
+is_barred : (p : Peer) (n : ℕ) (bar : Bar) (m : ClientMessage) → bar_of p n m ≡ Some bar
+    → (p, one n (said_by bar)) ≡ bounded p (Message n m)
+is_barred p n bar m e = ap (λ s. unless_barred s p n (outcome p (Message n m))) (sym e)
 
 is_turn : (p : Peer) (n most : ℕ) → fault (Some p) n ≡ None → turned p n most ≡ bounded p (EndSome n most)
 is_turn p n most known =
@@ -238,7 +238,7 @@ is_turn p n most known =
 
 pub took : (b : Bounds) (o q : Option Peer) (had has : Places) (n : ℕ) (m : ClientMessage)
     (sent slice : List Sent)
-    → slice ≡ sent → AreLinedOf o had → fault o n ≡ None → IfSome o (λ p. surplus p n m ≡ None)
+    → slice ≡ sent → AreLinedOf o had → fault o n ≡ None → IfSome o (λ p. bar_of p n m ≡ None)
     → IfSome o (λ p. sent ≡ (answered p n m).1)
     → IfSome o (λ p. q ≡ Some (answered p n m).0)
     → ((k : ℕ) → line_of has k ≡ with_texts b (texts_to k slice) (line_of had k))
@@ -256,20 +256,20 @@ took b (Some p) q had has n m sent slice same lined known none told now put =
           ∙ ap (λ c. is_known c k) (sym (answers p n m));
     })
 
--- a request too many for the end changes nothing of the peer
-pub refuses : (b : Bounds) (o : Option Peer) (had has : Places) (n id : ℕ) (m : ClientMessage)
-    → AreLinedOf o had → IfSome o (λ p. surplus p n m ≡ Some id)
-    → ((k : ℕ) → line_of has k ≡ with_texts b (texts_to k (one n (Refused id too_many))) (line_of had k))
+-- what the hub answers itself changes nothing of the peer
+pub refuses : (b : Bounds) (o : Option Peer) (had has : Places) (n : ℕ) (bar : Bar) (m : ClientMessage)
+    → AreLinedOf o had → IfSome o (λ p. bar_of p n m ≡ Some bar)
+    → ((k : ℕ) → line_of has k ≡ with_texts b (texts_to k (one n (said_by bar))) (line_of had k))
     → IsDone b o had (Message n m) o has
-refuses b None had has n id m lined over put = absurd lined
-refuses b (Some p) had has n id m lined over put =
-    let is : (p, one n (Refused id too_many)) ≡ bounded p (Message n m) = is_refused p n id m over in
+refuses b None had has n bar m lined over put = absurd lined
+refuses b (Some p) had has n bar m lined over put =
+    let is : (p, one n (said_by bar)) ≡ bounded p (Message n m) = is_barred p n bar m over in
     record {
       peer = ap (λ (x : Outcome). x.0) is;
       lines = λ k.
           put k ∙ ap (λ s. with_texts b (texts_to k s) (line_of had k)) (ap (λ (x : Outcome). x.1) is);
       lined = λ k.
-          ap is_some (put k) ∙ some_texts b (texts_to k (one n (Refused id too_many))) (line_of had k) ∙ lined k;
+          ap is_some (put k) ∙ some_texts b (texts_to k (one n (said_by bar))) (line_of had k) ∙ lined k;
     }
 
 -- who leaves a turn's lines: in the last one the connection has none any more
@@ -323,7 +323,7 @@ turns b (Some p) q had mid has n most last sent slice same lined known told ends
 -- what is seen of what was sent, as to whom it was
 pub took_seen : {R E X : Type 0} (is_seen : R → X) (seen : List Sent → X) (r : Result R E) (o : Option Peer)
     (n : ℕ) (m : ClientMessage) (sent slice : List Sent) → slice ≡ sent → fault o n ≡ None
-    → IfSome o (λ p. surplus p n m ≡ None)
+    → IfSome o (λ p. bar_of p n m ≡ None)
     → IfSome o (λ p. sent ≡ (answered p n m).1) → IfOk r (λ answer. is_seen answer ≡ seen slice)
     → IfOk r (λ answer. IfSome o (λ p. is_seen answer ≡ seen (bounded p (Message n m)).1))
 took_seen is_seen seen r None n m sent slice same known none is e = if_ok r (λ answer h. tt) e
@@ -331,12 +331,12 @@ took_seen is_seen seen r (Some p) n m sent slice same known none is e =
     if_ok r (λ answer h. h ∙ ap seen (same ∙ is ∙ ap (λ (x : Outcome). x.1) (is_message p n m known none))) e
 
 pub refuses_seen : {R E X : Type 0} (is_seen : R → X) (seen : List Sent → X) (r : Result R E) (o : Option Peer)
-    (n id : ℕ) (m : ClientMessage) → IfSome o (λ p. surplus p n m ≡ Some id)
-    → IfOk r (λ answer. is_seen answer ≡ seen (one n (Refused id too_many)))
+    (n : ℕ) (bar : Bar) (m : ClientMessage) → IfSome o (λ p. bar_of p n m ≡ Some bar)
+    → IfOk r (λ answer. is_seen answer ≡ seen (one n (said_by bar)))
     → IfOk r (λ answer. IfSome o (λ p. is_seen answer ≡ seen (bounded p (Message n m)).1))
-refuses_seen is_seen seen r None n id m over e = if_ok r (λ answer h. tt) e
-refuses_seen is_seen seen r (Some p) n id m over e =
-    if_ok r (λ answer h. h ∙ ap seen (ap (λ (x : Outcome). x.1) (is_refused p n id m over))) e
+refuses_seen is_seen seen r None n bar m over e = if_ok r (λ answer h. tt) e
+refuses_seen is_seen seen r (Some p) n bar m over e =
+    if_ok r (λ answer h. h ∙ ap seen (ap (λ (x : Outcome). x.1) (is_barred p n bar m over))) e
 
 pub turned_told : (o : Option Peer) (n most : ℕ) (sent slice : List Sent) (told : List ℕ) → slice ≡ sent
     → fault o n ≡ None → IfSome o (λ p. sent ≡ (turned p n most).1) → told ≡ receivers slice

@@ -18,12 +18,14 @@ use Rattle.rt_peer.specs.Pushes.{bundled, pushes, written}
 use Rattle.rt_peer.specs.Calls.{Outcome, answered, asked, deferred, dropped, entries_of, one, refusal}
 use Rattle.rt_peer.specs.Calls.{unless_refused, wrote}
 use Rattle.rt_peer.specs.Runs.{Message, outcome}
-use Rattle.rt_hub.specs.Bounded.{surplus, too_many, unless_surplus}
+use Rattle.rt_hub.specs.Bounded.{bar_of, said_by, unless_barred}
+use Rattle.rt_hub.specs.declared.bar.Bar.{Bar}
+use Rattle.rt_hub.specs.declared.bar.Bar.TheVariants.{TooMany, TooLong, Unsendable}
 use Rattle.rt_hub.specs.declared.verdict.Verdict.TheVariants.{Accepted, Refused}
 use Rattle.rt_hub.specs.declared.verdict.When.{When}
 use Rattle.rt_hub.specs.declared.verdict.When.TheVariants as At
-use Rattle.rt_hub.specs.Verdicts.{is_ok, says_ok, verdict_of, verdict_when}
-use Rattle.rt_hub.specs.laws.Verdicts.{RefusedChangesNothing, RequestsAreJudged, judged, judged_unless}
+use Rattle.rt_hub.specs.Verdicts.{is_ok, says_ok, verdict_of, verdict_when, when_asked}
+use Rattle.rt_hub.specs.laws.Verdicts.{RefusedChangesNothing, RequestsAreJudged, judged, judged_barred, judged_unless}
 use Rattle.rt_hub.specs.laws.Verdicts.{unless_why}
 
 -- ---- the last one
@@ -77,22 +79,26 @@ known_judged p n message known =
     ap (λ (t : Bool). let o : Outcome = if t then answered p n message else (p, []) in verdict_of message o.1) known
     ∙ answers p n message
 
--- a request too many is refused
-surplus_refused : (p : Peer) (n : ℕ) (message : ClientMessage) (id : ℕ) → surplus p n message ≡ Some id
-    → verdict_of message (one n (Says.Refused id too_many)) ≡ Refused
-surplus_refused p n (Hello version) id e = cc
-surplus_refused p n (ListenTo tag q) id e = cc
-surplus_refused p n (Unlisten tag) id e = cc
-surplus_refused p n (Ask i (Now action)) id e = refl
-surplus_refused p n (Ask i (AtDisconnect ending)) id e = refl
+-- what the hub answers itself accepts nothing
+none_accepted : (when : When) (n : ℕ) (bar : Bar) → verdict_when (Some when) (one n (said_by bar)) ≡ Refused
+none_accepted when n (TooMany id) = refl
+none_accepted when n (TooLong id) = refl
+none_accepted when n (Unsendable tag) = refl
+
+barred : (n : ℕ) (message : ClientMessage) (bar : Bar) → verdict_of message (one n (said_by bar))
+    ≡ judged_barred message
+barred n (Hello version) bar = refl
+barred n (ListenTo tag q) bar = refl
+barred n (Unlisten tag) bar = refl
+barred n (Ask id asked) bar = none_accepted (when_asked asked) n bar
 
 pub requests_judged : RequestsAreJudged
 requests_judged p n message known =
-    elim (surplus p n message) as (λ s. surplus p n message ≡ s
-    → verdict_of message (unless_surplus s p n (outcome p (Message n message))).1 ≡ judged_unless s p message) [
-      | None ↦ λ e. known_judged p n message known
-      | Some id ↦ λ e. surplus_refused p n message id e
-    ] refl
+    elim (bar_of p n message) as (λ b.
+    verdict_of message (unless_barred b p n (outcome p (Message n message))).1 ≡ judged_unless b p message) [
+      | None ↦ known_judged p n message known
+      | Some bar ↦ barred n message bar
+    ]
 
 -- ---- what is refused
 
@@ -127,10 +133,10 @@ known_same p n message h =
 
 pub refused_same : RefusedChangesNothing
 refused_same p n message h =
-    elim (surplus p n message) as (λ s. judged_unless s p message ≡ Refused
-    → (unless_surplus s p n (outcome p (Message n message))).0 ≡ p) [
+    elim (bar_of p n message) as (λ b. judged_unless b p message ≡ Refused
+    → (unless_barred b p n (outcome p (Message n message))).0 ≡ p) [
       | None ↦ λ e. known_same p n message e
-      | Some id ↦ λ e. refl
+      | Some bar ↦ λ e. refl
     ] h
 
 -- both laws

@@ -11,6 +11,10 @@ pub const MAX_WAITING_BYTES: usize = 16_777_216;
 /// How many bytes may wait for all connections together, also of texts that were taken and not yet sent.
 pub const MAX_WAITING_IN_ALL: usize = 134_217_728;
 
+/// How many bytes the text of a tree may have that is sent: a write that makes the tree longer is refused, and a
+/// listen that shows a longer one is revoked.
+pub const MAX_TREE_BYTES: usize = 67_108_864;
+
 /// How many listens a connection may have: one with more is to be ended.
 pub const MAX_LISTENS: usize = 131_072;
 

@@ -1,18 +1,17 @@
 // Calls of the peer, and what they put behind what waits.
 ghost use Rattle.std.specs.Prelude.{◌≡◌, ℕ, None, IfOk, IfSome, OnOk};
-ghost use Rattle.rt_wire.specs.declared.server.ServerMessage.TheVariants.{Refused};
 ghost use Rattle.rt_peer.specs.Calls.{fault, one};
 ghost use Rattle.rt_peer.specs.Peers.{least_free};
 ghost use Rattle.rt_peer.specs.Runs.{Connect, Message, EndSome};
 ghost use Rattle.rt_peer.specs.Turns.{is_last_turn};
-ghost use Rattle.rt_hub.specs.Bounded.{bounded, surplus, too_many};
+ghost use Rattle.rt_hub.specs.Bounded.{bar_of, bounded, said_by};
 ghost use Rattle.rt_hub.specs.Hubs.{receivers};
 ghost use Rattle.rt_hub.specs.Lines.{line_of, texts_to, with_texts};
 ghost use Rattle.rt_hub.specs.Verdicts.{verdict_of, verdict_when};
 ghost use Rattle.rt_hub.specs.inside.Lined.{AreLinedOf, IsDone};
 
+use crate::bar::{Bar, bar_of, refusal};
 use crate::bounds::Bounds;
-use crate::surplus::{refusal, surplus};
 use crate::verdict::{Verdict, When, verdict_when, when_in};
 use crate::waiting::Waiting;
 use rt_peer::{Peer, Sent};
@@ -95,7 +94,7 @@ fn ask(
 ) -> Result<(Verdict, Vec<u64>), AllocError>
     requires lined { AreLinedOf peer.old lines.old }
     requires known { fault peer.old connection ≡ None }
-    requires room { IfSome peer.old (λ p. surplus p connection message ≡ None) }
+    requires room { IfSome peer.old (λ p. bar_of p connection message ≡ None) }
     ensures done { OnOk result (IsDone bounds peer.old lines.old (Message connection message)
         peer.new lines.new) }
     ensures judged { IfOk result (λ answer. IfSome peer.old (λ p.
@@ -110,23 +109,23 @@ fn ask(
     send_judged(lines, alloc, bounds, when, sent.as_slice())
 }
 
-// A request too many for the end of a connection is refused.
+// A message that the hub answers itself is answered.
 fn refuse(
     lines: &mut Waiting,
     alloc: Global,
     bounds: Bounds,
     connection: u64,
-    id: u64,
+    bar: Bar,
     when: Option<When>,
 ) -> Result<(Verdict, Vec<u64>), AllocError>
     ensures put { OnOk result ((n : ℕ) → line_of lines.new n
-        ≡ with_texts bounds (texts_to n (one connection (Refused id too_many))) (line_of lines.old n)) }
+        ≡ with_texts bounds (texts_to n (one connection (said_by bar))) (line_of lines.old n)) }
     ensures judged { IfOk result (λ answer. answer.0
-        ≡ verdict_when when (one connection (Refused id too_many))) }
+        ≡ verdict_when when (one connection (said_by bar))) }
     ensures told { IfOk result (λ answer. answer.1.items
-        ≡ receivers (one connection (Refused id too_many))) }
+        ≡ receivers (one connection (said_by bar))) }
 {
-    let sent = refusal(alloc, connection, id)?;
+    let sent = refusal(alloc, connection, bar)?;
     send_judged(lines, alloc, bounds, when, slice::from_ref(&sent))
 }
 
@@ -148,8 +147,9 @@ pub(crate) fn answer(
     ensures told { IfOk result (λ answer. IfSome peer.old (λ p.
         answer.1.items ≡ receivers (bounded p (Message connection message)).1)) }
 {
-    match surplus(peer, connection, &message) {
-        Some(id) => refuse(lines, alloc, bounds, connection, id, when_in(&message)),
+    let bar = bar_of(alloc, peer, connection, &message)?;
+    match bar {
+        Some(bar) => refuse(lines, alloc, bounds, connection, bar, when_in(&message)),
         None => ask(peer, lines, alloc, bounds, connection, message),
     }
 }

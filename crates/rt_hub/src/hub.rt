@@ -164,7 +164,8 @@ impl Hub {
     /// behind what waits for those that it is sent to, and whether it is a request that was accepted is
     /// answered; where it is none, nothing changes.
     ///
-    /// A request for the end of a connection that has as many as it may is refused.
+    /// A request for the end of a connection that has as many as it may is refused, and so is a write that would
+    /// make the tree's text longer than `MAX_TREE_BYTES`. A listen that shows a longer tree is revoked.
     ///
     /// # Errors
     ///

@@ -14,7 +14,8 @@ pub fn queue_law()
 
 /// Of a known connection just the requests have a verdict: a write and what is to be done at the end are
 /// refused where their entries are, and what is to be dropped where its path is denied. What is to be done at
-/// the end is refused too where the connection has as much of that as it may. What is refused changes nothing.
+/// the end is refused too where the connection has as much of that as it may, and a write where it would make
+/// the tree too long. What is refused changes nothing.
 #[tactic(auto, using(crate::proofs::Judged::laws))]
 pub fn verdict_law()
     ensures judged { RequestsAreJudged }

@@ -12,24 +12,27 @@
 //! More may be sent to a connection than it takes. What waits for it is bounded: where as much waits as may,
 //! and a call has something more for it, its line is over. Nothing waits any more then, and nothing will: it
 //! has lost something, and is to be ended. So is a connection that has more listens than one may have. A
-//! request for the end of one that has as many as it may is refused.
+//! request for the end of one that has as many as it may is refused. So is a write that would make the tree's
+//! text longer than one that is sent; a listen to such a tree is revoked.
 //!
 //! A contract sees a hub as what it holds (`specs/Hubs.antt`), none once it has lacked memory.
 #![tactic(auto)]
 
+mod bar;
 mod bounds;
 mod calls;
 mod examples;
+mod growth;
 mod hub;
 mod laws;
 mod line;
 mod lines;
-mod surplus;
 mod verdict;
 mod waiting;
 
 pub use bounds::{
-    Bounds, MAX_ACTIONS, MAX_LISTENS, MAX_WAITING_BYTES, MAX_WAITING_IN_ALL, MAX_WAITING_MESSAGES,
+    Bounds, MAX_ACTIONS, MAX_LISTENS, MAX_TREE_BYTES, MAX_WAITING_BYTES, MAX_WAITING_IN_ALL,
+    MAX_WAITING_MESSAGES,
 };
 pub use examples::line_examples;
 pub use hub::{Hub, Taken};

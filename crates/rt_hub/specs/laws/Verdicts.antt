@@ -7,7 +7,8 @@ use Rattle.rt_wire.specs.declared.client.ClientMessage.TheVariants.{Hello, Liste
 use Rattle.rt_peer.specs.Peers.{Peer, is_denied, is_known}
 use Rattle.rt_peer.specs.Calls.{entries_of, refusal}
 use Rattle.rt_peer.specs.Runs.{Message}
-use Rattle.rt_hub.specs.Bounded.{bounded, surplus}
+use Rattle.rt_hub.specs.Bounded.{bar_of, bounded}
+use Rattle.rt_hub.specs.declared.bar.Bar.{Bar}
 use Rattle.rt_hub.specs.declared.verdict.Verdict.{Verdict}
 use Rattle.rt_hub.specs.declared.verdict.Verdict.TheVariants.{Accepted, Refused, NoRequest}
 use Rattle.rt_hub.specs.declared.verdict.When.{When}
@@ -28,13 +29,19 @@ judged p (Ask id (Asks.Now action)) = unless_why Now (refusal p.denied (entries_
 judged p (Ask id (Asks.AtDisconnect (Run action))) = unless_why AtEnd (refusal p.denied (entries_of action))
 judged p (Ask id (Asks.AtDisconnect (Cancel path))) = if is_denied p.denied path then Refused else Accepted AtEnd
 
--- one of a request too many for the end is refused
-abbrev pub judged_unless : Option ℕ → Peer → ClientMessage → Verdict
+-- a request that the hub answers itself is refused
+abbrev pub judged_barred : ClientMessage → Verdict
+judged_barred (Hello version) = NoRequest
+judged_barred (Listen tag query) = NoRequest
+judged_barred (Unlisten tag) = NoRequest
+judged_barred (Ask id asked) = Refused
+
+abbrev pub judged_unless : Option Bar → Peer → ClientMessage → Verdict
 judged_unless None p message = judged p message
-judged_unless (Some id) p message = Refused
+judged_unless (Some bar) p message = judged_barred message
 
 abbrev pub judged_in : Peer → ℕ → ClientMessage → Verdict
-judged_in p n message = judged_unless (surplus p n message) p message
+judged_in p n message = judged_unless (bar_of p n message) p message
 
 -- what is sent for a message of a known connection says so
 abbrev pub RequestsAreJudged : Type 0
