@@ -1,5 +1,5 @@
 -- The listeners and the tree of their forms: what is looked for in it, and how both change.
-use Rattle.std.proofs.Common.{◌≡◌, ◌≢◌, ℕ, zero, suc, ◌+◌, ◌<◌, ◌≤◌, ◌==◌, nat_lt, Bool, true, false, cond, not, ◌&&◌, ◌||◌, List, [], ◌∷◌, ◌++◌, map, length, take, drop, get_or, slice_index_or, refl, sym, ap, subst, ◌∙◌, arith, ltb-true, ltb-false, eqb-true, eq-eqb, append_assoc, append-nil, length-append, inl, inr, Option, Some, None, is_some}
+use Rattle.std.proofs.Common.{◌≡◌, ◌≢◌, ℕ, zero, suc, ◌+◌, ◌<◌, ◌≤◌, ◌==◌, nat_lt, Bool, true, false, cond, not, ◌&&◌, ◌||◌, List, [], ◌∷◌, ◌++◌, map, length, take, drop, get_or, slice_index_or, refl, sym, ap, subst, ◌∙◌, arith, ltb-true, ltb-false, eqb-true, eq-eqb, append_assoc, append-nil, length-append, inl, inr, Option, Some, None, is_some, IfSome}
 use mathlib.Core.Bool.{true≢false}
 use Rattle.std.specs.List.{filter, find, list_any, slice_get, All, AllPairs, Contains}
 use Rattle.std.specs.Option.{option_map, option_map_or}
@@ -228,7 +228,7 @@ and_no true = refl
 and_no false = refl
 
 -- a test that another follows from needs no word beside it
-absorbed : (a b c : Bool) → (b ≡ true → a ≡ true) → (a && (b && c)) ≡ (b && c)
+pub absorbed : (a b c : Bool) → (b ≡ true → a ≡ true) → (a && (b && c)) ≡ (b && c)
 absorbed a true c h = ap (λ x. x && c) (h refl)
 absorbed a false c h = and_no a
 
@@ -262,22 +262,56 @@ begins_one : (ends : Registered → Bool) (ls : List Registered) → Rise ls →
     → begins_at ends ls p l.0 ≡ ((not (ends l) && not (is_replaced ends ls l)) && p l.0)
 begins_one ends ls rise p l m = ap (λ o. option_map_or (λ (x : Registered). (not (ends x) && not (is_replaced ends ls x)) && p l.0) o false) (find_one (λ (x : Registered). x.0) ls l rise m)
 
--- under a lost plain one
-pub under_begins : (ends : Registered → Bool) (ls : List Registered) → Rise ls → (p : ℕ → Bool) (k : Tagged) → is_filtered k.form ≡ false
-    → list_any (λ (l : Registered). is_at_or_above (k.form).path (l.1).path && begins_at ends ls p l.0) ls ≡ begins_after ends ls p k
-under_begins ends ls rise p k flat =
-    list_any_agreed (λ (l : Registered). is_at_or_above (k.form).path (l.1).path && begins_at ends ls p l.0)
-    (λ (l : Registered). does_supply k.form l.1 && ((not (ends l) && not (is_replaced ends ls l)) && p l.0)) ls
-    (λ l m. (λ i. (sym (supply_unfiltered k.form l.1 flat)) i && begins_one ends ls rise p l m i))
+-- for none whose listener ends
+pub none_begin : (ended : ℕ → Bool) (ls : List Registered) (p : ℕ → Bool) (ns : List ℕ) → list_any (λ m. not (ended m)) ns ≡ false
+    → list_any (begins_at (λ (l : Registered). ended l.0) ls p) ns ≡ false
+none_begin ended ls p ns none = fails (list_any begins ns) (λ e.
+    let a = Any-from_list_any begins ns e in
+    true≢false (sym (list_any_with (λ m. not (ended m)) ns a.1 (a.0, a.2, a.3) (at a.1 (find (λ (l : Registered). l.0 == a.1) ls) (found a.1 ls) a.4)) ∙ none))
+  where
+    begins : ℕ → Bool
+    begins = begins_at (λ (l : Registered). ended l.0) ls p
 
--- at the path of another one
-pub filtered_begins : (ends : Registered → Bool) (ls : List Registered) → Rise ls → (p : ℕ → Bool) (k : Tagged) (path : Path) → path ≡ (k.form).path → is_filtered k.form ≡ true
-    → list_any (λ (l : Registered). (is_filtered l.1 && path_eq (l.1).path path) && (does_supply k.form l.1 && begins_at ends ls p l.0)) ls ≡ begins_after ends ls p k
-filtered_begins ends ls rise p k path is own =
-    list_any_agreed (λ (l : Registered). (is_filtered l.1 && path_eq (l.1).path path) && (does_supply k.form l.1 && begins_at ends ls p l.0))
+    fails : (b : Bool) → (b ≡ true → ⊥) → b ≡ false
+    fails true h = absurd (h refl)
+    fails false h = refl
+
+    -- who is found by a number has it
+    found : (n : ℕ) (xs : List Registered) → IfSome (find (λ (l : Registered). l.0 == n) xs) (λ l. l.0 ≡ n)
+    found n [] = tt
+    found n (x ∷ xs) = elim (x.0 == n) as (λ b. (x.0 == n) ≡ b → IfSome (cond b (Some x) (find (λ (l : Registered). l.0 == n) xs)) (λ l. l.0 ≡ n)) [
+      | true ↦ λ e. eqb-true x.0 n e
+      | false ↦ λ _. found n xs
+    ] refl
+
+    at : (n : ℕ) (o : Option Registered) → IfSome o (λ l. l.0 ≡ n)
+        → option_map_or (λ (l : Registered). (not (ended l.0) && not (is_replaced (λ (x : Registered). ended x.0) ls l)) && p n) o false ≡ true → not (ended n) ≡ true
+    at n None h e = absurd (true≢false (sym e))
+    at n (Some l) h e = ap (λ m. not (ended m)) (sym h)
+        ∙ both_first (not (ended l.0)) (not (is_replaced (λ (x : Registered). ended x.0) ls l)) (both_first (not (ended l.0) && not (is_replaced (λ (x : Registered). ended x.0) ls l)) (p n) e)
+
+-- of a listen that is lost
+pub supplied_begin : (ends : Registered → Bool) (ls : List Registered) → Rise ls → (p : ℕ → Bool) (k : Tagged)
+    → list_any (λ (l : Registered). does_supply k.form l.1 && begins_at ends ls p l.0) ls ≡ begins_after ends ls p k
+supplied_begin ends ls rise p k =
+    list_any_agreed (λ (l : Registered). does_supply k.form l.1 && begins_at ends ls p l.0)
     (λ (l : Registered). does_supply k.form l.1 && ((not (ends l) && not (is_replaced ends ls l)) && p l.0)) ls
-    (λ l m. absorbed (is_filtered l.1 && path_eq (l.1).path path) (does_supply k.form l.1) (begins_at ends ls p l.0) (there l)
-    ∙ ap (λ b. does_supply k.form l.1 && b) (begins_one ends ls rise p l m))
+    (λ l m. ap (λ b. does_supply k.form l.1 && b) (begins_one ends ls rise p l m))
+
+-- whom a plain one supplies
+pub under_supplied : (ls : List Registered) (t : ℕ → Bool) (k : Tagged) → is_filtered k.form ≡ false
+    → list_any (λ (l : Registered). is_at_or_above (k.form).path (l.1).path && t l.0) ls ≡ list_any (λ (l : Registered). does_supply k.form l.1 && t l.0) ls
+under_supplied ls t k flat =
+    list_any_agreed (λ (l : Registered). is_at_or_above (k.form).path (l.1).path && t l.0) (λ (l : Registered). does_supply k.form l.1 && t l.0) ls
+    (λ l m. ap (λ b. b && t l.0) (sym (supply_unfiltered k.form l.1 flat)))
+
+-- and another one
+pub filtered_supplied : (ls : List Registered) (t : ℕ → Bool) (k : Tagged) (path : Path) → path ≡ (k.form).path → is_filtered k.form ≡ true
+    → list_any (λ (l : Registered). (is_filtered l.1 && path_eq (l.1).path path) && (does_supply k.form l.1 && t l.0)) ls
+    ≡ list_any (λ (l : Registered). does_supply k.form l.1 && t l.0) ls
+filtered_supplied ls t k path is own =
+    list_any_agreed (λ (l : Registered). (is_filtered l.1 && path_eq (l.1).path path) && (does_supply k.form l.1 && t l.0)) (λ (l : Registered). does_supply k.form l.1 && t l.0) ls
+    (λ l m. absorbed (is_filtered l.1 && path_eq (l.1).path path) (does_supply k.form l.1) (t l.0) (there l))
   where
     there : (l : Registered) → does_supply k.form l.1 ≡ true → (is_filtered l.1 && path_eq (l.1).path path) ≡ true
     there l e = both (is_filtered l.1) (path_eq (l.1).path path) (supplied_is_filtered k.form l.1 own e)

@@ -17,8 +17,11 @@ pub mod RunLaws
 pub mod SearchLaws
 pub mod SeenLaws
 pub mod StartLaws
+pub mod SuppliedLaws
 pub mod SupplyLaws
 pub mod SupplierLaws
 pub mod TagLaws
 pub mod TagPlaceLaws
 pub mod TakenLaws
+pub mod TakerLaws
+pub mod WidestLaws

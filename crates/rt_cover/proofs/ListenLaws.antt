@@ -1,13 +1,13 @@
 -- The listens by path: who supplies a query, and what a new one takes over.
 use Rattle.std.proofs.Common.{◌≡◌, ◌≢◌, ℕ, ◌+◌, ◌<◌, ◌≤◌, ◌==◌, nat_lt, Bool, true, false, cond, not, ◌&&◌, ◌⊎◌, inl, inr, ◌||◌, List, [], ◌∷◌, map, length, take, refl, sym, ap, subst, ◌∙◌, arith, eqb-true, eq-eqb, ltb-true, ltb-false, Option, Some, None, is_some, IfSome, IfNone}
 use mathlib.Core.Bool.{true≢false}
-use Rattle.std.specs.List.{filter, find, list_any, AllPairs, Contains}
+use Rattle.std.specs.List.{filter, find, list_any, All, AllPairs, Contains}
 use Rattle.std.specs.List.Sorted.{IsNonDecreasingBy}
 use Rattle.std.specs.Option.{option_map, option_map_or}
 use Rattle.std.proofs.lemmas.List.Elements.{All-contains}
 use Rattle.std.proofs.lemmas.List.Folds.{Any-from_list_any}
 use Rattle.std.proofs.lemmas.List.Kept.{AllPairs-filter}
-use Rattle.rt_tree.specs.PathTree.{Path, path_eq, path_eq-same, strip, strip-some, strip-crossed}
+use Rattle.rt_tree.specs.PathTree.{Path, path_eq, path_eq-is, path_eq-same, strip, strip-some, strip-crossed}
 use Rattle.rt_tree.specs.Assignments.{is_at_or_above}
 use Rattle.rt_tree.specs.TreeEq.{both, both_first, both_second}
 use Rattle.rt_tree.specs.laws.Prefixes.{length-strip}
@@ -19,9 +19,10 @@ use Rattle.rt_cover.specs.Shown.{IsLeastSupplier}
 use Rattle.rt_cover.specs.inside.Index.{form_of, SameCounts}
 use Rattle.rt_cover.specs.inside.Least.{lesser, least_from, IsPlainOrLeast}
 use Rattle.rt_cover.specs.inside.Sound.{IsSound}
+use Rattle.rt_cover.specs.laws.CoverLaws.{Contains-from_filter, passes-from_filter}
 use Rattle.rt_cover.specs.laws.FormLaws.{supply_unfiltered, supplied_is_filtered, supplied_has_path}
 use Rattle.rt_cover.specs.laws.Pairs.{Contains-head, AllPairs-map, AllPairs-three, All-from_contained, filter_all, filter_agreeing}
-use Rattle.rt_cover.specs.laws.Paths.{rest_of_above}
+use Rattle.rt_cover.specs.laws.Paths.{rest_of_above, is_at_or_above-same}
 use Rattle.rt_cover.specs.laws.ShownLaws.{needed_alone}
 use Rattle.rt_cover.proofs.ByPathLaws.{is_plain_above, list_any_agreed, list_any_implied, prefix_at}
 use Rattle.rt_cover.proofs.CountLaws.{same_filter, same_map, same_trans, rising_same}
@@ -168,6 +169,28 @@ all_there q ks none t h =
           sym (and_yes (at k) ∙ subst (λ p. path_eq (k.form).path p ≡ true) same (path_eq-same (k.form).path))
       | false ↦ λ _. sym (and_no (at k))
     ] refl
+
+-- where one stands above, it supplies the query
+pub some_plain : (q : Query) (ks : List Tagged) (o : Option ℕ) → is_some o ≡ true
+    → IfSome o (λ t. list_any (λ k. is_at_or_above (k.form).path q.path && (is_plain k && k.tag == t)) ks ≡ true)
+    → list_any (λ k. does_supply k.form q) ks ≡ true
+some_plain q ks None e h = absurd (true≢false (sym e))
+some_plain q ks (Some t) e h = list_any_implied (λ k. does_supply k.form q && k.tag == t) (λ k. does_supply k.form q)
+    (λ k f. both_first (does_supply k.form q) (k.tag == t) f) ks (some_above q t ks h)
+
+-- where none does, those at the path are ranges
+pub ranges_there : (q : Query) (ks : List Tagged) → list_any (is_plain_above form_of q.path (length q.path + 1)) ks ≡ false
+    → (p : Path) → p ≡ q.path → All (λ (k : Tagged). is_filtered k.form ≡ true) (filter (λ (k : Tagged). path_eq (k.form).path p) ks)
+ranges_there q ks none p is = All-from_contained (λ (k : Tagged). is_filtered k.form ≡ true) (filter at ks) (λ k m.
+    let there : (k.form).path ≡ q.path = path_eq-is (k.form).path p (passes-from_filter at ks k m) ∙ is in
+    elim (is_filtered k.form) as (λ b. is_filtered k.form ≡ b → b ≡ true) [
+      | true ↦ λ _. refl
+      | false ↦ λ flat. sym flat ∙ no_plain q ks none k (Contains-from_filter at ks k m)
+          (supplies_plain k.form q (ap not flat) (subst (λ z. is_at_or_above (k.form).path z ≡ true) there (is_at_or_above-same (k.form).path)))
+    ] refl)
+  where
+    at : Tagged → Bool
+    at k = path_eq (k.form).path p
 
 -- ---- the least of some tags
 

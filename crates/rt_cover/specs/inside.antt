@@ -5,3 +5,4 @@ pub mod Least
 pub mod Picked
 pub mod Places
 pub mod Sound
+pub mod Widest

@@ -1,42 +1,67 @@
 // For whom listens start once others are lost: looked for under the paths of plain ones, and at those of
 // others.
-ghost use Rattle.std.specs.Prelude.{◌≡◌, ◌<◌, ◌||◌, ◌&&◌, false, not, ℕ, Bool, OnOk, IfOk};
+ghost use Rattle.std.specs.Prelude.{◌≡◌, ◌<◌, ◌≤◌, ◌||◌, ◌&&◌, true, false, not, ℕ, Bool, length, OnOk, IfOk};
+ghost use Rattle.std.specs.Prelude.{slice_index_or, take, drop};
 ghost use Rattle.std.specs.List.{list_any, All, AllPairs};
+ghost use Rattle.std.specs.List.Sorted.{IsSorted};
 ghost use Rattle.std.specs.Option.{option_map_or};
+ghost use Rattle.rt_query.specs.Queries.{is_filtered};
 ghost use Rattle.rt_query.specs.Supply.{form, does_supply};
+ghost use Rattle.rt_cover.specs.Cover.{Tagged};
 ghost use Rattle.rt_cover.specs.inside.Endings.{by_number, is_replaced, begins_at, begins_after};
+ghost use Rattle.rt_cover.specs.inside.Endings.{has_supplied, is_range_at};
+ghost use Rattle.rt_cover.specs.inside.Index.{by_form, form_of, AreApart};
+ghost use Rattle.rt_cover.specs.inside.Widest.{IsOfPath};
 
-use crate::behind::is_behind;
-use crate::by_path::HasForm;
+use crate::behind::{has_left, is_behind};
+use crate::by_path::{HasForm, supply};
 use crate::ending::Ending;
 use crate::listen::Listen;
 use crate::listener::Listener;
 use crate::listeners::Listeners;
+use crate::listens::in_order;
 use crate::numbers::add_some;
+use crate::widest::{Widest, places_of_widest};
 use rt_forms::Filtered;
+use rt_query::Query;
+use rt_tree::Path;
 use std::alloc::{AllocError, Global};
 
 // Whether the listener is left, and none that is comes before it.
-fn begins<E: Ending>(listeners: &Listeners, ending: &E, listener: &Listener) -> bool
+fn begins<E: Ending>(
+    listeners: &Listeners,
+    ending: &E,
+    widest: &Widest<'_>,
+    listener: &Listener,
+) -> bool
     requires forms { All (λ l. form l.1 ≡ l.1) listeners.now }
     requires own { form listener.now.1 ≡ listener.now.1 }
+    requires widest { IsOfPath (E.ended ending.now) listeners.now
+        widest.now.path.now widest.now.entries.now widest.now.places.now }
     ensures { result ≡ (not (E.ended ending.now listener.now.0)
         && not (is_replaced (by_number (E.ended ending.now)) listeners.now listener.now)) }
 {
-    !ending.ends(listener.number()) && !is_behind(listeners, ending, listener)
+    !ending.ends(listener.number()) && !is_behind(listeners, ending, widest, listener)
 }
 
 // The number again, where a listen starts for its listener.
-fn begun<E: Ending>(listeners: &Listeners, ending: &E, number: u64) -> Option<u64>
+fn begun<E: Ending>(
+    listeners: &Listeners,
+    ending: &E,
+    widest: &Widest<'_>,
+    number: u64,
+) -> Option<u64>
     requires rise { AllPairs (λ l m. l.0 < m.0) listeners.now }
     requires forms { All (λ l. form l.1 ≡ l.1) listeners.now }
+    requires widest { IsOfPath (E.ended ending.now) listeners.now
+        widest.now.path.now widest.now.entries.now widest.now.places.now }
     ensures { (p : ℕ → Bool) → option_map_or p result false
         ≡ begins_at (by_number (E.ended ending.now)) listeners.now p number }
 {
     let Some(listener) = listeners.at(number) else {
         return None;
     };
-    if begins(listeners, ending, listener) {
+    if begins(listeners, ending, widest, listener) {
         Some(number)
     } else {
         None
@@ -48,83 +73,286 @@ fn add_begun<E: Ending>(
     numbers: &mut Vec<u64>,
     listeners: &Listeners,
     ending: &E,
-    under: &[u64],
+    widest: &Widest<'_>,
+    beside: &[u64],
+) -> Result<(), AllocError>
+    requires rise { AllPairs (λ l m. l.0 < m.0) listeners.now }
+    requires forms { All (λ l. form l.1 ≡ l.1) listeners.now }
+    requires widest { IsOfPath (E.ended ending.now) listeners.now
+        widest.now.path.now widest.now.entries.now widest.now.places.now }
+    ensures { OnOk result ((p : ℕ → Bool) → list_any p numbers.new.items
+        ≡ (list_any p numbers.old.items
+        || list_any (begins_at (by_number (E.ended ending.now)) listeners.now p) beside.now)) }
+{
+    for number in beside {
+        add_some(numbers, begun(listeners, ending, widest, *number))?;
+    }
+    Ok(())
+}
+
+// The same, with the widest forms of the path that they mostly have.
+fn add_beside<E: Ending>(
+    numbers: &mut Vec<u64>,
+    listeners: &Listeners,
+    ending: &E,
+    path: &Path,
+    beside: &[u64],
 ) -> Result<(), AllocError>
     requires rise { AllPairs (λ l m. l.0 < m.0) listeners.now }
     requires forms { All (λ l. form l.1 ≡ l.1) listeners.now }
     ensures { OnOk result ((p : ℕ → Bool) → list_any p numbers.new.items
         ≡ (list_any p numbers.old.items
-        || list_any (begins_at (by_number (E.ended ending.now)) listeners.now p) under.now)) }
+        || list_any (begins_at (by_number (E.ended ending.now)) listeners.now p) beside.now)) }
 {
-    for number in under {
-        add_some(numbers, begun(listeners, ending, *number))?;
-    }
-    Ok(())
-}
-
-// Adds the numbers of those that begin of a form that the listen supplies.
-fn add_entry<E: Ending>(
-    numbers: &mut Vec<u64>,
-    listeners: &Listeners,
-    ending: &E,
-    listen: &Listen,
-    entry: &Filtered,
-) -> Result<(), AllocError>
-    requires rise { AllPairs (λ l m. l.0 < m.0) listeners.now }
-    requires forms { All (λ l. form l.1 ≡ l.1) listeners.now }
-    ensures { OnOk result ((p : ℕ → Bool) → list_any p numbers.new.items
-        ≡ (list_any p numbers.old.items || does_supply listen.now.form entry.now.0
-        && list_any (begins_at (by_number (E.ended ending.now)) listeners.now p) entry.now.1)) }
-{
-    if !listen.form().supplies(entry.form()) {
+    if !has_left(beside, ending) {
         return Ok(());
     }
-    add_begun(numbers, listeners, ending, entry.numbers())
+    let entries = listeners.filtered_at(path.keys());
+    let places = places_of_widest(listeners.alloc(), entries, ending)?;
+    let widest = Widest {
+        path,
+        entries,
+        places: &places,
+    };
+    add_begun(numbers, listeners, ending, &widest, beside)
 }
 
-// Adds the numbers of those that begin of the forms that the listen supplies, among these.
-fn add_entries<E: Ending>(
-    numbers: &mut Vec<u64>,
-    listeners: &Listeners,
-    ending: &E,
-    listen: &Listen,
-    entries: &[Filtered],
-) -> Result<(), AllocError>
-    requires rise { AllPairs (λ l m. l.0 < m.0) listeners.now }
-    requires forms { All (λ l. form l.1 ≡ l.1) listeners.now }
-    ensures { OnOk result ((p : ℕ → Bool) → list_any p numbers.new.items
-        ≡ (list_any p numbers.old.items || list_any (λ e. does_supply listen.now.form e.0
-        && list_any (begins_at (by_number (E.ended ending.now)) listeners.now p) e.1) entries.now)) }
+// The path of the first of some listeners, or else this one.
+fn path_of_first<'a>(listeners: &'a Listeners, numbers: &[u64], path: &'a Path) -> &'a Path
+    requires { AllPairs (λ l m. l.0 < m.0) listeners.now }
 {
-    for entry in entries {
-        add_entry(numbers, listeners, ending, listen, entry)?;
+    let Some(number) = numbers.first() else {
+        return path;
+    };
+    match listeners.at(*number) {
+        Some(listener) => listener.form().path(),
+        None => path,
     }
-    Ok(())
 }
 
-// Adds the numbers of those that begin where the listen is lost.
-fn add_lost<E: Ending>(
+// Whether the listener of that number has the path.
+fn is_at(listeners: &Listeners, path: &Path, number: u64) -> bool
+    requires { AllPairs (λ l m. l.0 < m.0) listeners.now }
+{
+    match listeners.at(number) {
+        Some(listener) => listener.form().path() == path,
+        None => false,
+    }
+}
+
+// How many listeners come before the first that has another path.
+fn count_at(listeners: &Listeners, path: &Path, numbers: &[u64]) -> usize
+    requires { AllPairs (λ l m. l.0 < m.0) listeners.now }
+    ensures { result ≤ length numbers.now }
+{
+    for count in 0..numbers.len() {
+        if !is_at(listeners, path, numbers[count]) {
+            return count;
+        }
+    }
+    numbers.len()
+}
+
+// How many listeners stand together with the first, by the path.
+fn count_beside(listeners: &Listeners, path: &Path, numbers: &[u64]) -> usize
+    requires rise { AllPairs (λ l m. l.0 < m.0) listeners.now }
+    ensures within { result ≤ length numbers.now }
+    ensures some { 0 < length numbers.now → 0 < result }
+{
+    match numbers.split_first() {
+        Some((_, others)) => count_at(listeners, path, others) + 1,
+        None => 0,
+    }
+}
+
+// Those behind the first so many.
+fn behind<T>(items: &[T], count: usize) -> &[T]
+    requires { count ≤ length items.now }
+    ensures { result.now ≡ drop count items.now }
+{
+    &items[count..]
+}
+
+// Adds the numbers of those of some listeners that begin, path by path: those of one path mostly stand
+// together.
+fn add_by_path<E: Ending>(
     numbers: &mut Vec<u64>,
     listeners: &Listeners,
     ending: &E,
-    listen: &Listen,
+    root: &Path,
+    supplied: &[u64],
 ) -> Result<(), AllocError>
     requires rise { AllPairs (λ l m. l.0 < m.0) listeners.now }
     requires forms { All (λ l. form l.1 ≡ l.1) listeners.now }
     ensures { OnOk result ((p : ℕ → Bool) → list_any p numbers.new.items
         ≡ (list_any p numbers.old.items
-        || begins_after (by_number (E.ended ending.now)) listeners.now p listen.now)) }
+        || list_any (begins_at (by_number (E.ended ending.now)) listeners.now p) supplied.now)) }
 {
-    let path = listen.form().path().keys();
-    if listen.form().is_filtered() {
-        let entries = listeners.filtered_at(path);
-        return add_entries(numbers, listeners, ending, listen, entries);
+    let mut rest = supplied;
+    while !rest.is_empty() {
+        let at = path_of_first(listeners, rest, root);
+        let count = count_beside(listeners, at, rest);
+        add_beside(numbers, listeners, ending, at, &rest[..count])?;
+        rest = behind(rest, count);
     }
-    let under = listeners.numbers_under(path)?;
-    add_begun(numbers, listeners, ending, &under)
+    Ok(())
 }
 
-// The numbers of those that begin where the listens are lost.
+// ---- whom lost listens supplied
+
+// Whether one of these ranges supplies the form. Where there is one alone, it is asked at once.
+fn is_supplied(ranges: &[Listen], form: &Query) -> bool
+    requires order { IsSorted (by_form form_of) ranges.now }
+    requires filtered { All (λ k. is_filtered k.form ≡ true) ranges.now }
+    requires apart { AreApart form_of ranges.now }
+    ensures { result ≡ list_any (λ k. does_supply k.form form.now) ranges.now }
+{
+    if ranges.len() == 1 {
+        return ranges[0].form().supplies(form);
+    }
+    supply(ranges, form)
+}
+
+// Adds the numbers of a form, if one of these ranges supplies it.
+fn add_form(numbers: &mut Vec<u64>, ranges: &[Listen], entry: &Filtered) -> Result<(), AllocError>
+    requires order { IsSorted (by_form form_of) ranges.now }
+    requires filtered { All (λ k. is_filtered k.form ≡ true) ranges.now }
+    requires apart { AreApart form_of ranges.now }
+    ensures { OnOk result ((t : ℕ → Bool) → list_any t numbers.new.items
+        ≡ (list_any t numbers.old.items
+        || list_any (λ k. does_supply k.form entry.now.0) ranges.now && list_any t entry.now.1)) }
+{
+    if !is_supplied(ranges, entry.form()) {
+        return Ok(());
+    }
+    numbers.extend_from_slice(entry.numbers())?;
+    Ok(())
+}
+
+// Adds the numbers of those of these forms that one of the ranges supplies.
+fn add_forms(
+    numbers: &mut Vec<u64>,
+    ranges: &[Listen],
+    entries: &[Filtered],
+) -> Result<(), AllocError>
+    requires order { IsSorted (by_form form_of) ranges.now }
+    requires filtered { All (λ k. is_filtered k.form ≡ true) ranges.now }
+    requires apart { AreApart form_of ranges.now }
+    ensures { OnOk result ((t : ℕ → Bool) → list_any t numbers.new.items
+        ≡ (list_any t numbers.old.items || list_any (λ e.
+        list_any (λ k. does_supply k.form e.0) ranges.now && list_any t e.1) entries.now)) }
+{
+    for entry in entries {
+        add_form(numbers, ranges, entry)?;
+    }
+    Ok(())
+}
+
+// Adds the numbers of those whose forms the ranges of a path supply: they have its path. Goes over its forms
+// once, however many ranges there are.
+fn add_at(
+    numbers: &mut Vec<u64>,
+    listeners: &Listeners,
+    path: &Path,
+    ranges: &[Listen],
+) -> Result<(), AllocError>
+    requires order { IsSorted (by_form form_of) ranges.now }
+    requires there { All (λ k. is_range_at path.now k ≡ true) ranges.now }
+    requires apart { AreApart form_of ranges.now }
+    ensures { OnOk result ((t : ℕ → Bool) → list_any t numbers.new.items
+        ≡ (list_any t numbers.old.items || list_any (has_supplied listeners.now t) ranges.now)) }
+{
+    add_forms(numbers, ranges, listeners.filtered_at(path.keys()))
+}
+
+// Adds the numbers of those whose forms a plain listen supplies: they stand at and under its path.
+fn add_under(
+    numbers: &mut Vec<u64>,
+    listeners: &Listeners,
+    listen: &Listen,
+) -> Result<(), AllocError>
+    requires forms { All (λ l. form l.1 ≡ l.1) listeners.now }
+    requires plain { is_filtered listen.now.form ≡ false }
+    ensures { OnOk result ((t : ℕ → Bool) → list_any t numbers.new.items
+        ≡ (list_any t numbers.old.items || has_supplied listeners.now t listen.now)) }
+{
+    let mut under = listeners.numbers_under(listen.form().path().keys())?;
+    numbers.append(&mut under)?;
+    Ok(())
+}
+
+// Whether it is one of a range of the path.
+fn is_range_at(listen: &Listen, path: &Path) -> bool
+    ensures { result ≡ is_range_at path.now listen.now }
+{
+    listen.form().is_filtered() && listen.form().path() == path
+}
+
+// How many come before the first that isn't one of a range of the path.
+fn count_ranges(listens: &[Listen], path: &Path) -> usize
+    ensures within { result ≤ length listens.now }
+    ensures there { All (λ k. is_range_at path.now k ≡ true) (take result listens.now) }
+    ensures next { (d : Tagged) → result < length listens.now
+        → is_range_at path.now (slice_index_or listens.now result d) ≡ false }
+{
+    for count in 0..listens.len() {
+        if !is_range_at(&listens[count], path) {
+            return count;
+        }
+    }
+    listens.len()
+}
+
+// Adds the numbers of those whose forms the first of the listens supplies, or it and the other ranges of its
+// path that follow; how many listens these are.
+fn add_first(
+    numbers: &mut Vec<u64>,
+    listeners: &Listeners,
+    listens: &[Listen],
+) -> Result<usize, AllocError>
+    requires forms { All (λ l. form l.1 ≡ l.1) listeners.now }
+    requires some { 0 < length listens.now }
+    requires order { IsSorted (by_form form_of) listens.now }
+    requires apart { AreApart form_of listens.now }
+    ensures some { IfOk result (λ count. 0 < count) }
+    ensures within { IfOk result (λ count. count ≤ length listens.now) }
+    ensures numbers { IfOk result (λ count. (t : ℕ → Bool) → list_any t numbers.new.items
+        ≡ (list_any t numbers.old.items
+        || list_any (has_supplied listeners.now t) (take count listens.now))) }
+{
+    let first = &listens[0];
+    let path = first.form().path();
+    let count = count_ranges(listens, path);
+    if count == 0 {
+        add_under(numbers, listeners, first)?;
+        return Ok(1);
+    }
+    add_at(numbers, listeners, path, &listens[..count])?;
+    Ok(count)
+}
+
+// The numbers of those whose forms the listens supply, which stand in order.
+fn supplied(
+    alloc: Global,
+    listeners: &Listeners,
+    listens: &[Listen],
+) -> Result<Vec<u64>, AllocError>
+    requires forms { All (λ l. form l.1 ≡ l.1) listeners.now }
+    requires order { IsSorted (by_form form_of) listens.now }
+    requires apart { AreApart form_of listens.now }
+    ensures { IfOk result (λ numbers. (t : ℕ → Bool) → list_any t numbers.items
+        ≡ list_any (has_supplied listeners.now t) listens.now) }
+{
+    let mut numbers = Vec::new(alloc);
+    let mut rest = listens;
+    while !rest.is_empty() {
+        let count = add_first(&mut numbers, listeners, rest)?;
+        rest = behind(rest, count);
+    }
+    Ok(numbers)
+}
+
+// The numbers of those that begin where the listens are lost, of whose ranges none takes in another.
 pub(crate) fn numbers_begun<E: Ending>(
     alloc: Global,
     listeners: &Listeners,
@@ -133,12 +361,14 @@ pub(crate) fn numbers_begun<E: Ending>(
 ) -> Result<Vec<u64>, AllocError>
     requires rise { AllPairs (λ l m. l.0 < m.0) listeners.now }
     requires forms { All (λ l. form l.1 ≡ l.1) listeners.now }
+    requires apart { AreApart form_of lost.now }
     ensures { IfOk result (λ numbers. (p : ℕ → Bool) → list_any p numbers.items
         ≡ list_any (begins_after (by_number (E.ended ending.now)) listeners.now p) lost.now) }
 {
+    let ordered = in_order(alloc, lost)?;
+    let candidates = supplied(alloc, listeners, &ordered)?;
     let mut numbers = Vec::new(alloc);
-    for listen in lost {
-        add_lost(&mut numbers, listeners, ending, listen)?;
-    }
+    let root = Path::root(alloc);
+    add_by_path(&mut numbers, listeners, ending, &root, &candidates)?;
     Ok(numbers)
 }

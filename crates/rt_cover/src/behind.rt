@@ -10,11 +10,13 @@ ghost use Rattle.rt_query.specs.Ranges.{takes_in};
 ghost use Rattle.rt_query.specs.Supply.{form, does_supply};
 ghost use Rattle.rt_query.specs.Supply as Supply;
 ghost use Rattle.rt_cover.specs.inside.Endings.{by_number, left, is_first, is_left_form, is_replaced};
+ghost use Rattle.rt_cover.specs.inside.Widest.{IsOfPath};
 
 use crate::by_path::HasForm;
-use crate::ending::{Ending, OfNumbers};
+use crate::ending::Ending;
 use crate::listener::Listener;
 use crate::listeners::Listeners;
+use crate::widest::{Widest, has_wider_in_front};
 use rt_forms::Filtered;
 use rt_query::Query;
 use rt_tree::Key;
@@ -31,7 +33,7 @@ fn has_lesser(numbers: &[u64], number: u64) -> bool
 }
 
 // Whether the listener of one is left.
-fn has_left<E: Ending>(numbers: &[u64], ending: &E) -> bool
+pub(crate) fn has_left<E: Ending>(numbers: &[u64], ending: &E) -> bool
     ensures { result ≡ list_any (λ m. not (E.ended ending.now m)) numbers.now }
 {
     numbers.iter().any(|number| !ending.ends(*number))
@@ -132,44 +134,75 @@ fn has_wider<E: Ending>(listeners: &Listeners, ending: &E, query: &Query) -> boo
     has_wider_among(listeners.filtered_at(query.path().keys()), ending, query)
 }
 
+// The same, by the widest ones, where they are those of the query's path.
+fn has_wider_beside<E: Ending>(
+    listeners: &Listeners,
+    ending: &E,
+    widest: &Widest<'_>,
+    query: &Query,
+) -> bool
+    requires { IsOfPath (E.ended ending.now) listeners.now
+        widest.now.path.now widest.now.entries.now widest.now.places.now }
+    ensures { result ≡ list_any (λ l. not (query_eq l.1 query.now) && takes_in l.1 query.now)
+        (left (by_number (E.ended ending.now)) listeners.now) }
+{
+    if widest.path == query.path() {
+        has_wider_in_front(widest.entries, widest.places, query)
+    } else {
+        has_wider(listeners, ending, query)
+    }
+}
+
 // Whether one has another form at the query's path, which supplies it, and is left.
-fn is_supplied_there<E: Ending>(listeners: &Listeners, ending: &E, query: &Query) -> bool
-    requires { All (λ l. form l.1 ≡ l.1) listeners.now }
+fn is_supplied_there<E: Ending>(
+    listeners: &Listeners,
+    ending: &E,
+    widest: &Widest<'_>,
+    query: &Query,
+) -> bool
+    requires forms { All (λ l. form l.1 ≡ l.1) listeners.now }
+    requires widest { IsOfPath (E.ended ending.now) listeners.now
+        widest.now.path.now widest.now.entries.now widest.now.places.now }
     ensures { result
         ≡ (list_any (λ l. path_eq (l.1).path query.now.path && not (is_filtered l.1))
         (left (by_number (E.ended ending.now)) listeners.now)
         || list_any (λ l. not (query_eq l.1 query.now) && takes_in l.1 query.now)
         (left (by_number (E.ended ending.now)) listeners.now)) }
 {
-    has_plain(listeners, ending, query.path().keys()) || has_wider(listeners, ending, query)
+    has_plain(listeners, ending, query.path().keys())
+        || has_wider_beside(listeners, ending, widest, query)
 }
 
 // Whether one has another form, which supplies this one, and is left.
-fn is_supplied<E: Ending>(listeners: &Listeners, ending: &E, query: &Query) -> bool
+fn is_supplied<E: Ending>(
+    listeners: &Listeners,
+    ending: &E,
+    widest: &Widest<'_>,
+    query: &Query,
+) -> bool
     requires forms { All (λ l. form l.1 ≡ l.1) listeners.now }
     requires own { form query.now ≡ query.now }
+    requires widest { IsOfPath (E.ended ending.now) listeners.now
+        widest.now.path.now widest.now.entries.now widest.now.places.now }
     ensures { result ≡ list_any (λ l. not (query_eq l.1 query.now) && does_supply l.1 query.now)
         (left (by_number (E.ended ending.now)) listeners.now) }
 {
     has_plain_above(listeners, ending, query.path().keys())
-        || query.is_filtered() && is_supplied_there(listeners, ending, query)
+        || query.is_filtered() && is_supplied_there(listeners, ending, widest, query)
 }
 
 // Whether one that is left comes before the listener.
-pub(crate) fn is_behind<E: Ending>(listeners: &Listeners, ending: &E, listener: &Listener) -> bool
+pub(crate) fn is_behind<E: Ending>(
+    listeners: &Listeners,
+    ending: &E,
+    widest: &Widest<'_>,
+    listener: &Listener,
+) -> bool
     requires forms { All (λ l. form l.1 ≡ l.1) listeners.now }
     requires own { form listener.now.1 ≡ listener.now.1 }
+    requires widest { IsOfPath (E.ended ending.now) listeners.now
+        widest.now.path.now widest.now.entries.now widest.now.places.now }
     ensures { result ≡ is_replaced (by_number (E.ended ending.now)) listeners.now listener.now }
 {
-    is_seen(listeners, ending, listener) || is_supplied(listeners, ending, listener.form())
-}
-
-// Whether one has a form that supplies this one, be it the same.
-pub(crate) fn has_supplier(listeners: &Listeners, form: &Query) -> bool
-    requires forms { All (λ l. Supply.form l.1 ≡ l.1) listeners.now }
-    requires own { Supply.form form.now ≡ form.now }
-    ensures { result ≡ list_any (λ l. does_supply l.1 form.now) listeners.now }
-{
-    let nobody = OfNumbers { numbers: &[] };
-    is_left(listeners, &nobody, form) || is_supplied(listeners, &nobody, form)
+    is_seen(listeners, ending, listener) || is_supplied(listeners, ending, widest, listener.form())
 }

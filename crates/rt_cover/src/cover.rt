@@ -7,7 +7,7 @@ ghost use Rattle.std.specs.Option.{option_copied, option_map, option_map_or};
 
 use crate::adding::started_one;
 use crate::beginning::numbers_begun;
-use crate::behind::{has_supplier, is_first, is_left};
+use crate::behind::{is_first, is_left};
 use crate::by_path::HasForm;
 use crate::choice::Choice;
 use crate::delta::{Delta, Revoked};
@@ -485,14 +485,13 @@ impl Cover {
         })
     }
 
-    // Whether a kept listen supplies the form: one does where somebody registered does.
+    // Whether a kept listen supplies the form.
     fn is_supplied(&self, form: &Query) -> bool
-        requires { Supply.form form.now ≡ form.now }
         ensures { result ≡ is_some (supplier self.now form.now) }
     {
         // For the prover: the cover is sound.
         let _last_tag = self.last_tag;
-        has_supplier(&self.listeners, form)
+        self.kept.supply(form)
     }
 
     // Registers a listener, where no tag is lacking.

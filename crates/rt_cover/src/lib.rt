@@ -34,6 +34,7 @@ mod placing;
 mod plan;
 mod shown;
 mod starting;
+mod widest;
 
 pub use choice::Choice;
 pub use cover::Cover;

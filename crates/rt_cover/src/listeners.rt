@@ -10,6 +10,7 @@ ghost use Rattle.rt_query.specs.QueryEq.{query_eq};
 ghost use Rattle.rt_query.specs.Supply.{form};
 ghost use Rattle.rt_query.specs.Supply as Supply;
 ghost use Rattle.rt_forms.specs.Forms.{numbers, count};
+ghost use Rattle.rt_forms.specs.Order.{AreInOrder};
 ghost use Rattle.rt_cover.specs.State.{is_registered, with_listener, numbers_of};
 ghost use Rattle.rt_cover.specs.inside.Held.{IsHeld};
 ghost use Rattle.rt_cover.specs.inside.Endings.{by_number, left};
@@ -147,11 +148,14 @@ impl Listeners {
         self.forms.plain_numbers(path)
     }
 
-    // The filtered forms of a path that listeners have, with the numbers of theirs. Costs by the path.
+    // The filtered forms of a path that listeners have, with the numbers of theirs, in the order of
+    // queries. Costs by the path.
     pub(crate) fn filtered_at(&self, path: &[Key]) -> &[Filtered]
-        ensures { (s : QueryValue → Bool) (t : ℕ → Bool)
+        ensures forms { (s : QueryValue → Bool) (t : ℕ → Bool)
             → list_any (λ e. s e.0 && list_any t e.1) result.now
             ≡ list_any (λ l. (is_filtered l.1 && path_eq (l.1).path path.now) && (s l.1 && t l.0)) self.now }
+        ensures order { AreInOrder result.now }
+        ensures filtered { All (λ e. is_filtered e.0 ≡ true) result.now }
     {
         // For the prover: what the tree keeps.
         let _by_number = &self.by_number;

@@ -11,10 +11,10 @@ ghost use Rattle.rt_query.specs.Queries.{is_filtered};
 ghost use Rattle.rt_query.specs.QueryEq.{query_eq};
 ghost use Rattle.rt_query.specs.Supply.{does_supply};
 ghost use Rattle.rt_cover.specs.Cover.{Tagged};
-ghost use Rattle.rt_cover.specs.inside.Index.{by_form, form_of, SameCounts};
+ghost use Rattle.rt_cover.specs.inside.Index.{by_form, form_of, AreApart, SameCounts};
 ghost use Rattle.rt_cover.specs.inside.Least.{lesser, least_from, IsPlainOrLeast};
 
-use crate::by_path::{HasForm, at_path, place_of_form, under};
+use crate::by_path::{HasForm, at_path, place_of_form, supply, under};
 use crate::listen::{Listen, copies, have_tag, place_of, tags_of};
 use crate::placing::place;
 use rt_query::{Query, query_cmp};
@@ -157,6 +157,30 @@ fn supplier(by_path: &[Listen], query: &Query) -> Option<u64>
     }
 }
 
+// Whether a range supplies the query, where no plain one does: it has the query's path.
+fn have_range(by_path: &[Listen], query: &Query) -> bool
+    requires order { IsSorted (by_form form_of) by_path.now }
+    requires apart { AreApart form_of by_path.now }
+    requires none { list_any (λ k. (is_at_or_above k.form.path query.now.path
+        && nat_lt (length k.form.path) (length query.now.path + 1))
+        && not (is_filtered k.form)) by_path.now ≡ false }
+    ensures { result ≡ list_any (λ k. does_supply k.form query.now) by_path.now }
+{
+    query.is_filtered() && supply(at_path(by_path, query.path().keys()), query)
+}
+
+// Whether one supplies the query: a plain one at its path or above it, or a range at its path, by halving.
+fn have_supplier(by_path: &[Listen], query: &Query) -> bool
+    requires order { IsSorted (by_form form_of) by_path.now }
+    requires apart { AreApart form_of by_path.now }
+    ensures { result ≡ list_any (λ k. does_supply k.form query.now) by_path.now }
+{
+    match plain_above(by_path, query.path().keys()) {
+        Some(_) => true,
+        None => have_range(by_path, query),
+    }
+}
+
 // The tags of those that the form supplies.
 fn tags_among(alloc: Global, listens: &[Listen], form: &Query) -> Result<Vec<u64>, AllocError>
     ensures { IfOk result (λ tags. tags.items
@@ -283,6 +307,24 @@ fn form_order(listen: &Listen, other: &Listen) -> Ordering
     query_cmp(listen.form(), other.form())
 }
 
+// Sorts them by form.
+fn sort_by_form(listens: &mut Vec<Listen>)
+    ensures sorted { IsSorted (by_form form_of) listens.new.items }
+    ensures same { SameCounts listens.new.items listens.old.items }
+{
+    listens.sort_unstable_by(|listen, other| form_order(listen, other));
+}
+
+// Equal listens, in the order of their forms.
+pub(crate) fn in_order(alloc: Global, listens: &[Listen]) -> Result<Vec<Listen>, AllocError>
+    ensures sorted { IfOk result (λ ordered. IsSorted (by_form form_of) ordered.items) }
+    ensures same { IfOk result (λ ordered. SameCounts ordered.items listens.now) }
+{
+    let mut ordered = copies(alloc, listens)?;
+    sort_by_form(&mut ordered);
+    Ok(ordered)
+}
+
 // Puts them behind the others, and sorts all by form; there is room for them.
 fn sort_all(by_path: &mut Vec<Listen>, mut new: Vec<Listen>)
     requires room { vec_len by_path.old + vec_len new ≤ vec_capacity by_path.old }
@@ -290,7 +332,7 @@ fn sort_all(by_path: &mut Vec<Listen>, mut new: Vec<Listen>)
     ensures same { SameCounts by_path.new.items (by_path.old.items ++ new.items) }
 {
     let _in_reserved_room = by_path.append(&mut new);
-    by_path.sort_unstable_by(|listen, other| form_order(listen, other));
+    sort_by_form(by_path);
 }
 
 // Puts each of them in its place; there is room for them.
@@ -445,6 +487,15 @@ impl Listens {
         ensures least { IfSome result (IsPlainOrLeast self.now query.now) }
     {
         supplier(&self.by_path, query)
+    }
+
+    // Whether one supplies the query. Of the paths at and above it looks for a plain one, and of the ranges
+    // of its path, of which none takes in another, for one by halving.
+    pub(crate) fn supply(&self, query: &Query) -> bool
+        requires { AreApart form_of self.now }
+        ensures { result ≡ list_any (λ k. does_supply k.form query.now) self.now }
+    {
+        have_supplier(&self.by_path, query)
     }
 
     // The tag of one of that form, by halving.

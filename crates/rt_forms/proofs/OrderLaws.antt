@@ -17,7 +17,8 @@ use Rattle.rt_query.specs.QueryEq.{query_eq}
 use Rattle.rt_query.specs.QueryOrder.{query_cmp}
 use Rattle.rt_query.specs.laws.QueryEq.{query_eq_tells}
 use Rattle.rt_query.specs.laws.QueryOrder.{queries_total, exact_queries}
-use Rattle.rt_forms.specs.inside.Lists.{by_form, AreInOrder, entry_at}
+use Rattle.rt_forms.specs.Order.{by_form, AreInOrder}
+use Rattle.rt_forms.specs.inside.Lists.{entry_at}
 use Rattle.rt_forms.proofs.ListLaws.{Entries}
 
 -- ---- where a form stands

@@ -9,6 +9,7 @@ ghost use Rattle.rt_forms.specs.Numbers.{with_number, without_number};
 ghost use Rattle.rt_tree.specs.Assignments.{is_at_or_above};
 ghost use Rattle.rt_forms.specs.Forms.{numbers, count, share_form, IsAsBefore, IsHeardUnder};
 ghost use Rattle.rt_forms.specs.Forms.{AreFilteredAt};
+ghost use Rattle.rt_forms.specs.Order.{AreInOrder};
 ghost use Rattle.rt_forms.specs.inside.FormsView.{all_under};
 ghost use Rattle.rt_forms.specs.inside.Trees.{own, seen, AreAt};
 
@@ -127,12 +128,13 @@ impl Forms {
         }
     }
 
-    /// The filtered forms of a path that have listeners, with the numbers of theirs: whoever looks
-    /// for what takes in a query, or for what it takes in, looks at these alone.
+    /// The filtered forms of a path that have listeners, with the numbers of theirs, in the order of
+    /// queries: whoever looks for what takes in a query, or for what it takes in, looks at these alone.
     ///
     /// Costs by the path, and the logarithm of the number of siblings at each of its keys.
     pub fn filtered_at(&self, path: &[Key]) -> &[Filtered]
-        ensures { AreFilteredAt self.now path.now result.now }
+        ensures forms { AreFilteredAt self.now path.now result.now }
+        ensures order { AreInOrder result.now }
     {
         match self.standing(path) {
             Some(standing) => standing.filtered(),

@@ -9,7 +9,8 @@ ghost use Rattle.rt_query.specs.QueryOrder.{query_cmp};
 ghost use Rattle.rt_forms.specs.Numbers.{with_number, without_number};
 ghost use Rattle.rt_forms.specs.inside.Trees.{among, own, Gained, Ends, passed, empty};
 ghost use Rattle.rt_forms.specs.inside.Trees.{all_filtered, all_own};
-ghost use Rattle.rt_forms.specs.inside.Lists.{entry_at, AreInOrder, IsJoined, parted};
+ghost use Rattle.rt_forms.specs.inside.Lists.{entry_at, IsJoined, parted};
+ghost use Rattle.rt_forms.specs.Order.{AreInOrder};
 
 use crate::numbers::Numbers;
 use rt_query::{Query, query_cmp};
@@ -83,7 +84,7 @@ impl Model for Standing {
 
     ghost view = { λ a. record { plain = a.plain; filtered = a.filtered.items; count = a.count } };
 
-    ghost use Rattle.rt_forms.specs.inside.Lists.{AreInOrder};
+    ghost use Rattle.rt_forms.specs.Order.{AreInOrder};
 
     ghost invariant = { λ a. AreInOrder a.filtered.items };
 }
@@ -325,9 +326,10 @@ impl Standing {
         self.plain.as_slice()
     }
 
-    // The filtered forms, with the numbers of their listeners.
+    // The filtered forms, with the numbers of their listeners, in the order of queries.
     pub(crate) fn filtered(&self) -> &[Filtered]
-        ensures { result.now ≡ self.now.filtered }
+        ensures forms { result.now ≡ self.now.filtered }
+        ensures order { AreInOrder result.now }
     {
         self.filtered.as_slice()
     }

@@ -2,7 +2,8 @@
 use Rattle.std.specs.Prelude.{ℕ, Bool, false, ◌&&◌, ◌==◌, not, nat_lt, if◌then◌else◌, List}
 use Rattle.std.specs.List.{filter, find, list_any}
 use Rattle.std.specs.Option.{option_map_or}
-use Rattle.rt_query.specs.Queries.{Query}
+use Rattle.rt_tree.specs.PathTree.{Path, path_eq}
+use Rattle.rt_query.specs.Queries.{Query, is_filtered}
 use Rattle.rt_query.specs.QueryEq.{query_eq}
 use Rattle.rt_query.specs.Supply.{does_supply}
 use Rattle.rt_cover.specs.declared.kept.Kept.{Kept}
@@ -53,6 +54,14 @@ is_lost_by ends listeners p n k =
 -- for whom listens start
 abbrev pub beginners : (Registered → Bool) → List Tagged → List Registered → List Registered
 beginners ends kept listeners = filter (starts ends kept listeners) listeners
+
+-- whether the listen supplies the form of a listener whose number passes a test
+abbrev pub has_supplied : List Registered → (ℕ → Bool) → Tagged → Bool
+has_supplied listeners t k = list_any (λ l. does_supply k.form l.1 && t l.0) listeners
+
+-- whether a listen is one of a range at a path
+abbrev pub is_range_at : Path → Tagged → Bool
+is_range_at path k = is_filtered k.form && path_eq (k.form).path path
 
 -- whether a listen starts for one whose number passes a test, and which a lost listen supplied
 abbrev pub begins_after : (Registered → Bool) → List Registered → (ℕ → Bool) → Tagged → Bool

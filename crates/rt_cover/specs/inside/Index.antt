@@ -1,10 +1,12 @@
 -- The same elements in the order of their forms.
-use Rattle.std.specs.Prelude.{◌≡◌, Bool, List}
+use Rattle.std.specs.Prelude.{◌≡◌, ◌&&◌, Bool, false, not, List}
 use Rattle.std.specs.declared.cmp.Ordering.{Ordering}
-use Rattle.std.specs.List.{count_by}
+use Rattle.std.specs.List.{count_by, list_any}
 use Rattle.std.specs.List.Sorted.{IsSorted}
 use Rattle.rt_query.specs.Queries.{Query}
+use Rattle.rt_query.specs.QueryEq.{query_eq}
 use Rattle.rt_query.specs.QueryOrder.{query_cmp}
+use Rattle.rt_query.specs.Ranges.{takes_in}
 use Rattle.rt_cover.specs.Cover.{Tagged}
 
 -- the form of a kept listen
@@ -23,3 +25,11 @@ SameCounts {X} xs ys = (p : X → Bool) → count_by p xs ≡ count_by p ys
 pub record IsIndex {X : Type 0} (form : X → Query) (xs by_path : List X) : Type 0 where
   pub sorted : IsSorted (by_form form) by_path
   pub same : SameCounts by_path xs
+
+-- whether the one is another form, whose range takes in the other's
+abbrev pub is_taker : Query → Query → Bool
+is_taker f g = not (query_eq f g) && takes_in f g
+
+-- none of them takes in another one
+abbrev pub AreApart : {X : Type 0} → (X → Query) → List X → Type 0
+AreApart form xs = list_any (λ x. list_any (λ y. is_taker (form x) (form y)) xs) xs ≡ false

@@ -1,22 +1,11 @@
 -- Filtered forms with the numbers of their listeners, as a list.
 use Rattle.std.specs.Prelude.{◌≡◌, ◌+◌, ℕ, suc, true, cond, ◌==◌, length, List, [], ◌∷◌, Option, Some, None}
-use Rattle.std.specs.List.Sorted.{IsSorted}
 use Rattle.std.specs.Option.{option_map}
-use Rattle.std.specs.declared.cmp.Ordering.{Ordering}
 use Rattle.rt_tree.specs.PathTree.{Path}
 use Rattle.rt_query.specs.Queries.{Query, is_filtered}
 use Rattle.rt_query.specs.QueryEq.{query_eq}
-use Rattle.rt_query.specs.QueryOrder.{query_cmp}
 use Rattle.rt_forms.specs.Numbers.{with_number, without_number}
 use Rattle.rt_forms.specs.inside.Trees.{among, of_filtered, AreAt}
-
--- two of them by their forms
-abbrev pub by_form : Query × List ℕ → Query × List ℕ → Ordering
-by_form e f = query_cmp e.0 f.0
-
--- none stands before one in front of it
-abbrev pub AreInOrder : List (Query × List ℕ) → Type 0
-AreInOrder es = IsSorted by_form es
 
 -- where a form stands
 abbrev pub entry_at : Query → List (Query × List ℕ) → Option ℕ

@@ -10,5 +10,5 @@ returns g c =
     let q : Query = c.args.query.now in
     let ended = g.E.Ending.ended c.args.ending.now in
     c.has_wider_among.ensures
-    ∙ c.filtered_at.ensures (λ f. not (query_eq f q) && takes_in f q) (λ m. not (ended m))
+    ∙ c.filtered_at.ensures.forms (λ f. not (query_eq f q) && takes_in f q) (λ m. not (ended m))
     ∙ wider_left c.keys.result.now q ended c.args.listeners.now (c.keys.ensures.keys ∙ c.path.ensures)

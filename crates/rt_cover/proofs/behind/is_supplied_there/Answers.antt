@@ -20,6 +20,6 @@ returns-else-has_plain g c =
     let f : Query = c.args.query.now in
     let ls = left (by_number (g.E.Ending.ended c.args.ending.now)) c.args.listeners.now in
     let is : c.keys.result.now ≡ f.path = c.keys.ensures.keys ∙ c.path.ensures in
-    c.has_wider.ensures
+    c.has_wider_beside.ensures
     ∙ sym (ap (λ b. b || list_any (is_wider f) ls)
     (ap (λ p. list_any (is_plain_at (λ (x : Registered). x.1) p) ls) (sym is) ∙ sym c.has_plain.ensures ∙ c.if-has_plain.false))

@@ -4,7 +4,8 @@ use Rattle.std.specs.List.Sorted.{IsPartitionPoint}
 use Rattle.std.specs.Ordering.{is_lt}
 use Rattle.rt_query.specs.Queries.{Query}
 use Rattle.rt_query.specs.QueryOrder.{query_cmp}
-use Rattle.rt_forms.specs.inside.Lists.{AreInOrder, IsJoined}
+use Rattle.rt_forms.specs.Order.{AreInOrder}
+use Rattle.rt_forms.specs.inside.Lists.{IsJoined}
 use Rattle.rt_forms.proofs.ListLaws.{is_entered}
 use Rattle.rt_forms.proofs.OrderLaws.{insert_in_order}
 use Rattle.rt_forms.proofs.standing.enter.Goals as goal

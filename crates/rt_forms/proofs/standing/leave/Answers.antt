@@ -3,7 +3,8 @@ use mathlib.Core.Bool.{true≢false}
 use Rattle.std.specs.List.{filter, remove, list_any}
 use Rattle.rt_query.specs.Queries.{Query}
 use Rattle.rt_forms.specs.Numbers.{without_number}
-use Rattle.rt_forms.specs.inside.Lists.{entry_at, AreInOrder}
+use Rattle.rt_forms.specs.Order.{AreInOrder}
+use Rattle.rt_forms.specs.inside.Lists.{entry_at}
 use Rattle.rt_forms.specs.inside.Trees.{among}
 use Rattle.rt_forms.proofs.ListLaws.{among_at}
 use Rattle.rt_forms.proofs.LessLaws.{parted_at, among_none}

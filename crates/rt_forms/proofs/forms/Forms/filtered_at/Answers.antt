@@ -6,14 +6,14 @@ use Rattle.rt_forms.specs.inside.Trees.{AreAt, own}
 use Rattle.rt_forms.proofs.FilteredLaws.{filtered_are, none_filtered}
 use Rattle.rt_forms.proofs.forms.Forms.filtered_at.Goals as goal
 
-pub returns-in-Some : goal.returns-in-Some
-returns-in-Some c =
-    subst (AreFilteredAt c.args.self.now c.args.path.now) (sym c.filtered.ensures)
+pub returns-in-Some-clause-forms : goal.returns-in-Some-clause-forms
+returns-in-Some-clause-forms c =
+    subst (AreFilteredAt c.args.self.now c.args.path.now) (sym c.filtered.ensures.forms)
     (filtered_are c.args.self.now c.args.path.now c.in-Some.standing.now
     (λ q. sym (ap (λ o. option_map_or (own q) (option_copied o) []) c.in-Some.is) ∙ c.standing.ensures.numbers q)
     (subst (λ o. IfSome o (λ standing. AreAt c.args.path.now standing.now.filtered)) c.in-Some.is c.standing.ensures.at))
 
-pub returns-in-None : goal.returns-in-None
-returns-in-None c =
+pub returns-in-None-clause-forms : goal.returns-in-None-clause-forms
+returns-in-None-clause-forms c =
     none_filtered c.args.self.now c.args.path.now
     (λ q. sym (ap (λ o. option_map_or (own q) (option_copied o) []) c.in-None.is) ∙ c.standing.ensures.numbers q)
