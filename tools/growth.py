@@ -1,6 +1,6 @@
 """What the worst scripts cost. The console runs each at two sizes under valgrind, which counts its instructions, so the load of a host doesn't matter.
 The count may grow by at most 1.6 times what the size does: a step that looks at all that is held, or at each pair, makes it grow by the square.
-Some do grow so, as docs/COSTS.md says: of these the bound is 1.6 times the square, or the cube.
+Some do grow so, as docs/COSTS.md says: of these the bound is 1.6 times the square.
 
 Usage: python3 tools/growth.py PROGRAM [NAME ..]     counts the scripts, or these alone, by a program that is built; writes rows of docs/COSTS.md
 """
@@ -201,7 +201,7 @@ def heard(size):
     return [*listens, {"k": "merge", "id": 1, "entries": {f"/{key}": 1 for key in keys(size)}}], 2 * size + 1
 
 
-# The scripts and sessions whose instructions grow as their size does, and those that grow by its square and by its cube, as docs/COSTS.md says.
+# The scripts and sessions whose instructions grow as their size does, and those that grow by its square, as docs/COSTS.md says.
 KINDS = {
     it.__name__: (it, power, sizes)
     for power, sizes, kinds in [
@@ -210,7 +210,7 @@ KINDS = {
         (2, (250, 2000), (ends, equals)),
         (2, (100, 800), (revoked, compared)),
         (2, (50, 400), (toggled, below, actions)),
-        (3, (12, 96), (ranges, nested)),
+        (2, (12, 96), (ranges, nested)),
     ]
     for it in kinds
 }
