@@ -157,6 +157,14 @@ pub use rt_client::Shared;
 /// fn hear(seat: &mut Seat, heard: &mut Heard) {
 ///     seat.hand_out(heard);
 /// }
+///
+/// fn take_all<R: Wait>(rt: &R, client: &Client, seat: &mut Seat) -> Result<bool, ClientError> {
+///     let taken = seat.for_each(rt, client, |item| match item {
+///         Item::Batch(_) => Err(()),
+///         Item::Receipt(_) | Item::Settled { .. } | Item::Cancelled { .. } => Ok(()),
+///     })?;
+///     Ok(taken.is_ok())
+/// }
 /// ```
 pub use rt_client::Seat;
 

@@ -14,11 +14,11 @@
 //! | paths and trees, read from JSON and written | [`Path::parse`], [`Tree::read`], [`Tree::text`] |
 //! | a query: an order, a range, a limit | [`Query::at`], [`Draft`] |
 //! | a client that threads share, a seat for each | [`Client::open`], [`Shared`], [`Seat`], [`deliver`] |
-//! | to know what a seat was told | [`Mirror`], [`Item`], [`Batch`], [`Change`] |
-//! | to show it | [`Snapshots`], [`Snapshot`], `Shared::view` |
+//! | to know what a seat was told | [`Seat::for_each`], [`Mirror`], [`Item`], [`Batch`], [`Change`] |
+//! | to show it | [`Snapshots::shown`], [`Snapshot`], `Shared::view` |
 //! | the messages of one server connection | [`ServerMessage::read`], [`ClientMessage::text`] |
 //! | the core alone, with no thread and no lock | [`Core`], [`Step`], [`run`] |
-//! | its connection over a WebSocket, in a thread of its own | [`Link::open`], [`Linked::keep_while`], [`Linked::both`] |
+//! | its connection over a WebSocket, in a thread of its own | [`Linked::connect_while`], [`Linked::both`], [`Link::open`] |
 //! | to write and wait for the answer, and by a push id | [`Linked::answer`], [`Linked::push`] |
 //! | a small server in the same process, for tests | [`Peer`] |
 //!

@@ -111,6 +111,21 @@
 ///     linked.push_key(rt, alloc)
 /// }
 ///
+/// fn connect_for<R: Threads + Net + Wait + Clock + RandomSource + Sync>(
+///     rt: &R,
+///     alloc: Global,
+///     server: SocketAddr,
+/// ) -> Result<bool, LinkFault> {
+///     let tell = |_: &Linked, _: &LinkEnd| {};
+///     Linked::connect_while(
+///         rt,
+///         alloc,
+///         server,
+///         tell,
+///         |linked| linked.client.open_seat(rt, 8).is_ok(),
+///     )
+/// }
+///
 /// fn keep_for_two<R: Threads + Net + Wait + Clock + RandomSource + Sync>(
 ///     rt: &R,
 ///     alloc: Global,
@@ -153,6 +168,16 @@
 ///     answers: &mut Answered,
 /// ) -> Result<usize, ClientError> {
 ///     linked.wait_answers(rt, seat, heard, answers, Duration::from_secs(10))
+/// }
+///
+/// fn stop_answered<R: Wait + Clock>(
+///     rt: &R,
+///     linked: &Linked,
+///     seat: &mut Seat,
+///     heard: &mut Mirror,
+///     answers: &mut Answered,
+/// ) -> Result<usize, ClientError> {
+///     linked.stop_when_answered(rt, seat, heard, answers, Duration::from_secs(10))
 /// }
 ///
 /// fn remove_and_ring(

@@ -151,6 +151,19 @@ pub use rt_mail::Mirror;
 ///     }
 /// }
 ///
+/// fn show_texts(rt: &impl Print, snapshots: &Snapshots, listener: u64) -> Result<()> {
+///     if let Some(shown) = snapshots.shown(listener)? {
+///         for row in shown.rows() {
+///             println!(rt;
+///                 "{} says {}",
+///                 row.key,
+///                 row.value.text_at("/").unwrap_or("nothing")
+///             )?;
+///         }
+///     }
+///     Ok(())
+/// }
+///
 /// fn is_of_all(snapshot: &Snapshot) -> bool {
 ///     !snapshot.query().is_filtered()
 /// }

@@ -10,6 +10,7 @@ pub mod Entries
 pub mod Filters
 pub mod Followed
 pub mod Foreseen
+pub mod Given
 pub mod Kept
 pub mod MapCrosses
 pub mod Mirrored

@@ -8,6 +8,7 @@
 --     Settling    what is handed over, closed, taken out and shown
 --     Viewing     what is shown of a listener
 --     Delivery    what is given to a sink or a mirror, and delivered over turns
+--     Giving      what a seat is told, given to a work item by item
 --     Opened      a client as it is opened, and its seats
 --     Waiting     what a seat's thread waits for, what it gets, and calls under the client's own lock
 -- laws/ has that what a seat is told keeps it up to date (Reflecting), that what the lock keeps is kept
@@ -17,6 +18,7 @@
 pub mod Calls
 pub mod Codes
 pub mod Delivery
+pub mod Giving
 pub mod inside
 pub mod Lanes
 pub mod laws

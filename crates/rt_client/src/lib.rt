@@ -17,6 +17,7 @@
 //! ```text
 //! client.set(rt, &mut seats[0], path, tree)?;                         // locks, calls, notifies
 //! while client.wait(rt, &mut seats[0])? { .. }                        // until its ring holds an item
+//! seats[0].for_each(rt, &client, |item| show(rt, item))??;            // each item as it comes, until told to stop
 //! while let Some(message) = client.wait_outgoing(rt)? { .. }          // until one is to be sent
 //! client.stop(rt);                                                    // both end; `wake` asks gates again
 //! ```
@@ -51,6 +52,7 @@ mod done;
 mod error;
 pub mod examples;
 mod following;
+mod giving;
 mod handing;
 mod held;
 mod keeping;

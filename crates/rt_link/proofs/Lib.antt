@@ -1,5 +1,4 @@
 pub mod Crosses
-pub mod Given
 pub mod Leaving
 pub mod Looked
 pub mod Rounds

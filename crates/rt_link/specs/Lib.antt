@@ -5,13 +5,11 @@
 --     Keeping    a link, and how long it waits between the connections that it keeps
 --     Answering  what an item says of a request, and what a seat's items say of all of them
 --     Seeing     what the snapshots of a seat's thread take of it
---     Giving     what a seat is told, given to a work item by item
 --     Pushing    a write by a push id
 -- laws/ has what goes to threads (Crossing). What a wire gives and takes, and how long a silent server is waited
--- for, is of rt_socket.
+-- for, is of rt_socket; what a seat is told, given to a work item by item, is of rt_client.
 pub mod Answering
 pub mod Carrying
-pub mod Giving
 pub mod inside
 pub mod Keeping
 pub mod laws

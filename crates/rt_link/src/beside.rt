@@ -1,10 +1,14 @@
 // A client's connection, kept by a thread beside its work.
+ghost use Rattle.std.specs.Prelude.{IfOk};
 ghost use Rattle.std.specs.Fn.{FnOnceReturnsAt};
+ghost use Rattle.rt_link.specs.Keeping.{HasWorked};
 
 use crate::crossing::link_crossing_law;
 use crate::error::LinkFault;
 use crate::link::{Link, LinkEnd};
 use crate::linked::Linked;
+use rt_client::Client;
+use rt_world::Limits;
 use std::alloc::Global;
 use std::net::{Net, SocketAddr};
 use std::random::RandomSource;
@@ -80,6 +84,32 @@ impl Linked {
             },
         );
         (kept, worked)
+    }
+
+    /// Opens a client, and keeps it connected in this thread while a work is done in one more, as
+    /// [`Linked::keep_while`] does. Answers what the work answers. The client has no seat at first: each thread
+    /// of the work opens its own.
+    ///
+    /// # Errors
+    ///
+    /// Those of [`Link::open`] and [`Link::keep`], and NoMemory of the client. What the work answers is lost then.
+    pub fn connect_while<
+        R: Threads + Net + Wait + Clock + RandomSource + Sync,
+        E: Fn(&Linked, &LinkEnd),
+        T: Send + Drop,
+        W: FnOnce(&Linked) -> T + Send,
+    >(rt: &R, alloc: Global, server: SocketAddr, ends: E, work: W) -> Result<T, LinkFault>
+        requires ends { E.IsAlwaysCallable ends }
+        requires work { W.IsAlwaysCallable work }
+        ensures { IfOk result (HasWorked W.FnOnce work) }
+    {
+        let (client, seats) = Client::open(alloc, 1, &[], Limits::full())?;
+        drop(seats);
+        let (mut link, linked) = Link::open(rt, alloc, client)?;
+        let (kept, worked) = linked.keep_while(rt, alloc, &mut link, server, ends, work);
+        drop((link, linked));
+        kept?;
+        Ok(worked)
     }
 
     /// Does two works at once, the first one in a thread of its own. Each is handed this client. The one that is

@@ -1,6 +1,6 @@
 // What a seat is told, given to a thread's work.
 ghost use Rattle.std.specs.Prelude.{IfOk, IfErr};
-ghost use Rattle.rt_link.specs.Giving.{Gives, RefusesGiving};
+ghost use Rattle.rt_client.specs.Giving.{Gives, RefusesGiving};
 
 use crate::linked::Linked;
 use rt_client::{ClientError, Seat};
@@ -8,9 +8,8 @@ use rt_mail::Item;
 use std::sync::Wait;
 
 impl Linked {
-    /// Gives each item of the seat to a work, in order, as it comes, until all are told to stop or the work
-    /// refuses one. Answers what the work answers to the last one: that it is done, or its own fault. The items
-    /// behind one that it refuses stay with the seat.
+    /// Gives each item of the seat to a work, in order, as it comes, as [`Seat::for_each`] does, until all are
+    /// told to stop or the work refuses one.
     ///
     /// ```text
     /// linked.for_each(rt, &mut seat, |item| show(rt, item))?
@@ -29,19 +28,6 @@ impl Linked {
         ensures given { IfOk result (λ done. Gives F.FnMut f seat.old done seat.new) }
         ensures refused { IfErr result (λ e. RefusesGiving F.FnMut f seat.old e seat.new) }
     {
-        let mut f = f;
-        for _ in rt.forever() {
-            self.client.wait(rt, seat)?;
-            let Some(item) = seat.next() else {
-                return Ok(Ok(()));
-            };
-            let taken = f(&item);
-            drop(item);
-            match taken {
-                Ok(()) => {}
-                Err(why) => return Ok(Err(why)),
-            }
-        }
-        unreachable!()
+        seat.for_each(rt, &self.client, f)
     }
 }

@@ -246,4 +246,29 @@ impl Linked {
         }
         unreachable!()
     }
+
+    /// Waits as [`Linked::wait_answers`] does, and then tells all to stop, as [`Linked::stop`] does: how many
+    /// requests of the seat the server has not answered. All are told to stop also where the wait is refused.
+    ///
+    /// # Errors
+    ///
+    /// Those of [`Linked::wait_answers`].
+    pub fn stop_when_answered<R: Wait + Clock>(
+        &self,
+        rt: &R,
+        seat: &mut Seat,
+        heard: &mut Mirror,
+        answers: &mut Answered,
+        within: Duration,
+    ) -> Result<usize, ClientError>
+        ensures heard { OnOk result
+            (HearsAll seat.old heard.old answers.old seat.new heard.new answers.new) }
+        ensures unanswered { IfOk result (λ count. count ≡ length (requests_in heard.new)) }
+        ensures refused { IfErr result (λ e.
+            RefusesHearing seat.old heard.old answers.old e seat.new heard.new answers.new) }
+    {
+        let unanswered = self.wait_answers(rt, seat, heard, answers, within);
+        self.stop(rt);
+        unanswered
+    }
 }

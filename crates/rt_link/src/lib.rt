@@ -8,6 +8,7 @@
 //! linked.client.wait(rt, &mut seats[0])?;                  // sleeps until the seat is told something
 //! linked.answer(rt, &mut seats[0], request, most)?;        // waits until the request is answered
 //! linked.keep_while(rt, alloc, &mut link, address, ends, work)     // connects, until the work is done
+//! Linked::connect_while(rt, alloc, address, ends, work)?           // opens all of that for a work
 //! ```
 //!
 //! [`Link::run`] connects, tells the client that it is connected, carries messages, and tells it that it is

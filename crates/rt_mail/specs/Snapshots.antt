@@ -32,6 +32,10 @@ Known = List (ℕ × Seen)
 abbrev pub seen_of : ℕ → Known → Option Seen
 seen_of n known = lookup (is_at (nat_cmp n)) known
 
+-- what it shows, as a leaf or as rows; none where no such listener is known, or nothing of its path yet
+abbrev pub shown_to : ℕ → Known → Option Shown
+shown_to n known = option_and_then shown_of (seen_of n known)
+
 -- a new listener, of which nothing is known yet; one that is there stays as it is
 abbrev pub begun : ℕ → Query → Known → Known
 begun n query known =

@@ -24,9 +24,8 @@
 //! while let Some(item) = seat.next() {
 //!     snapshots.take(&item)?;                          // where memory lacks, it can be taken again
 //! }
-//! if let Some(snapshot) = snapshots.get(listener) {
-//!     snapshot.value()                                 // none while nothing is known
-//!     snapshot.shown()?                                // the rows, in the query's order
+//! if let Some(shown) = snapshots.shown(listener)? {    // none while nothing is known
+//!     for row in shown.rows() { .. }                   // in the query's order
 //! }
 //! ```
 #![tactic(auto)]

@@ -1,12 +1,12 @@
 // What is known of a seat's listeners by the items that it was given.
-ghost use Rattle.std.specs.Prelude.{◌≡◌, [], OnOk, IfErr, length};
+ghost use Rattle.std.specs.Prelude.{◌≡◌, [], IfOk, OnOk, IfErr, length};
 ghost use Rattle.std.specs.Option.{option_map};
-ghost use Rattle.rt_mail.specs.Snapshots.{seen_of, begun, shows, ended, signed, after_item, tree_told};
+ghost use Rattle.rt_mail.specs.Snapshots.{seen_of, shown_to, begun, shows, ended, signed, after_item, tree_told};
 
 use crate::item::Item;
 use crate::receipt::Receipt;
 use crate::snapshot::Snapshot;
-use rt_query::Query;
+use rt_query::{Query, Shown};
 use rt_tree::Tree;
 use rt_view::{Batch, Change};
 use std::alloc::{AllocError, Global};
@@ -77,6 +77,21 @@ impl Snapshots {
         ensures { option_map (λ s. s.now) result ≡ seen_of listener self.now }
     {
         self.known.get(&listener)
+    }
+
+    /// What the listener of that number shows, as a leaf or as rows in its query's order; none where no such
+    /// listener is known, or nothing of its path yet. It costs by the rows; their trees are shared.
+    ///
+    /// # Errors
+    ///
+    /// Want of memory.
+    pub fn shown(&self, listener: u64) -> Result<Option<Shown>, AllocError>
+        ensures { IfOk result (λ shown. shown ≡ shown_to listener self.now) }
+    {
+        match self.get(listener) {
+            Some(snapshot) => snapshot.shown(),
+            None => Ok(None),
+        }
     }
 
     // A new listener, of which nothing is known yet; one that is there stays as it is.

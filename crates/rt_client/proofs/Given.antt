@@ -8,9 +8,16 @@ use Rattle.std.specs.List.{slice_get}
 use Rattle.rt_mail.specs.declared.item.Item.{Item}
 use Rattle.rt_client.specs.Calls.{Seated}
 use Rattle.rt_client.specs.Waiting.{Awaits}
-use Rattle.rt_link.specs.Giving.{with_ring, HasGiven, GivesAll}
-use Rattle.rt_link.proofs.Seen.{first_and_rest}
-use Rattle.rt_link.proofs.Told.{none_left}
+use Rattle.rt_client.specs.Giving.{with_ring, HasGiven, GivesAll}
+
+-- the first of some items, and the others
+first_and_rest : (xs : List Item) (x : Item) → slice_get xs 0 ≡ Some x → xs ≡ x ∷ drop 1 xs
+first_and_rest [] x e = absurd (cc)
+first_and_rest (y ∷ ys) x e = let head : y ≡ x = cc in ap (λ (z : Item). z ∷ ys) head
+
+none_left : (xs : List Item) → slice_get xs 0 ≡ None → xs ≡ []
+none_left [] e = refl
+none_left (x ∷ xs) e = absurd (cc)
 
 module _ {F E : Type 0} (g : Mut F (Bor Item × Unit {0}) (Result (Unit {0}) E)) where
   -- before the first
