@@ -29,7 +29,7 @@ export class Core {
 }
 /** A client with one seat, since a page has one thread. A call that is refused throws a DatabaseError, and changes nothing. */
 export class Client {
-    /** `ring` is how many items wait for `items()` at most, from 1 to 65,536; 1,024 where it is left out. */
+    /** `ring` is how many items wait inside the module for `items()`, from 1 to 65,536, and 64 where it is left out. Those beyond wait outside of it, and no call is refused. */
     constructor(ring?: number);
     /** How many bytes its memory has. */
     readonly memory: number;

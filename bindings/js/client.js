@@ -14,7 +14,7 @@ const MODULE = await WebAssembly.compile(await bytesOf(place));
 const WORDS = [
     "Done", "None", "Stale", "TooSmall", "Closed", "NoMemory", "Failed", "BadText", "WrongSeat", "MailboxFull", "TooManySeats", "Refused",
 ];
-const DONE = 0, NONE = 1, STALE = 2, TOO_SMALL = 3, BAD_TEXT = 7, REFUSED = 11;
+const DONE = 0, NONE = 1, STALE = 2, TOO_SMALL = 3, BAD_TEXT = 7, MAILBOX_FULL = 9, REFUSED = 11;
 const ROOM = 65536; // bytes that a text is first given
 const MOST_ITEMS = 65536; // of a seat's ring
 const encoder = new TextEncoder();
@@ -138,19 +138,36 @@ export class Core {
 /** A client with one seat, since a page has one thread. A call that is refused throws a DatabaseError, and changes nothing. */
 export class Client {
     #open;
-    /** `ring` is how many items wait for `items()` at most, from 1 to 65,536. */
-    constructor(ring = 1024) {
+    // What was taken out of a full ring, and from where on it is still to be told.
+    #taken = []; #at = 0;
+    /** `ring` is how many items wait inside the module for `items()`, from 1 to 65,536: where it is full they wait here, and no call is refused. */
+    constructor(ring = 64) {
         if (!(Number.isInteger(ring) && ring >= 1 && ring <= MOST_ITEMS)) throw new DatabaseError("client/BadRing");
         this.#open = new Open("client", [ring], 1);
     }
+    // Makes a call of the seat, and once more where the ring was full, when what was in it is taken out.
+    #make(call) {
+        let status = call();
+        if (status === MAILBOX_FULL) {
+            for (let item; (item = this.#next()) !== undefined; ) this.#taken.push(item);
+            status = call();
+        }
+        this.#open.check(status);
+    }
     // Makes a call of the seat, and answers the number that it gives: a listener's or a request's.
     #ask(name, ...texts) {
-        this.#open.check(this.#open.call(name, [1n], texts, [this.#open.number]));
+        this.#make(() => this.#open.call(name, [1n], texts, [this.#open.number]));
         return this.#open.read(this.#open.number);
+    }
+    // The next item of the ring, which has what waits for it first.
+    #next() {
+        this.#open.check(this.#open.run("settle", 1n));
+        const text = this.#open.text("next", [1n]);
+        return text === undefined ? undefined : JSON.parse(text);
     }
     /** Registers a listener, and answers its number. The query is the member `q` of the message that listens; none is all of the path. */
     listen(path, query = "") { return this.#ask("listen", path, query); }
-    unlisten(listener) { this.#open.check(this.#open.run("unlisten", 1n, BigInt(listener))); }
+    unlisten(listener) { this.#make(() => this.#open.run("unlisten", 1n, BigInt(listener))); }
     /** Sets a tree, which is JSON, at a path, and answers the number of the request. */
     set(path, tree) { return this.#ask("set", path, tree); }
     /** Sets several trees in one write: entries are JSON, an object of trees by their paths. */
@@ -178,10 +195,12 @@ export class Client {
     }
     /** Takes what the seat is told, in order, until nothing waits. */
     *items() {
-        for (let isMore = true; isMore; ) {
-            isMore = false;
-            this.#open.check(this.#open.run("settle", 1n));
-            for (let text; (text = this.#open.text("next", [1n])) !== undefined; isMore = true) yield JSON.parse(text);
+        for (;;) {
+            while (this.#at < this.#taken.length) yield this.#taken[this.#at++];
+            if (this.#at) [this.#taken, this.#at] = [[], 0];
+            const item = this.#next();
+            if (item === undefined) return;
+            yield item;
         }
     }
     /** The listens that are kept at the server, a line each. */

@@ -13,8 +13,6 @@ export { DatabaseError };
 // The pauses before the connection is made again, in milliseconds. A connection that stood as long as the longest begins with the first again,
 // and one that takes as long to come about is given up.
 const FIRST = 1000, LONGEST = 30000;
-// Items that the client's ring holds: what is told is taken at once, so few do.
-const RING = 64;
 
 const refusal = why => new DatabaseError(why === "denied" ? "PERMISSION_DENIED" : "SERVER_REFUSED", why);
 
@@ -23,7 +21,7 @@ export class Database {
     constructor(url, { WebSocket = globalThis.WebSocket } = {}) {
         if (typeof url !== "string") throw new DatabaseError("client/NoAddress", "the address of a server is wanted, as ws://127.0.0.1:8080/");
         if (!WebSocket) throw new DatabaseError("client/NoWebSocket", "there is no WebSocket here: give one, as { WebSocket }");
-        Object.assign(this, { url, WebSocket, client: new Client(RING), info: { connected: false, serverTimeOffset: 0 } });
+        Object.assign(this, { url, WebSocket, client: new Client(), info: { connected: false, serverTimeOffset: 0 } });
         Object.assign(this, { views: new Map(), numbered: new Map(), writes: new Map(), events: [], pause: FIRST });
         // The page is seen again, or the machine has a network again.
         this.hurry = ({ type }) => {

@@ -26,6 +26,7 @@ lines are.
 """
 from __future__ import annotations
 
+import collections
 import ctypes
 import json
 import os
@@ -42,7 +43,6 @@ __all__ = [
     "Core",
     "Error",
     "Failed",
-    "MailboxFull",
     "NoMemory",
     "Refused",
     "Seat",
@@ -75,10 +75,6 @@ class BadText(Error):
 
 class WrongSeat(Error):
     """The client has no such seat."""
-
-
-class MailboxFull(Error):
-    """The seat's ring has no room for what waits and the receipt: take items first. The call was not made, so a write is lost unless it is made again."""
 
 
 class TooManySeats(Error):
@@ -165,7 +161,6 @@ _ERRORS: Mapping[int, tuple] = {
     FAILED: (Failed, "the client has lacked memory before"),
     BAD_TEXT: (BadText, "a text is no JSON, or of another form"),
     WRONG_SEAT: (WrongSeat, "the client has no such seat"),
-    MAILBOX_FULL: (MailboxFull, "the seat's ring is full"),
     TOO_MANY_SEATS: (TooManySeats, "more than 64 seats"),
 }
 
@@ -275,10 +270,11 @@ class Client(_Open):
     _kind = "client"
 
     def __init__(self, rings: Sequence[int] = (64,), room: int = 4096):
-        """Opens a client with a seat for each of `rings`, which says how many items the seat's ring holds. `room` is how many bytes a text
-        is first given; a longer one gets its own.
+        """Opens a client with a seat for each of `rings`, which says how many items wait inside for the seat: where its ring is full they wait
+        here, and no call is refused. `room` is how many bytes a text is first given; a longer one gets its own.
 
         Raises TooManySeats, and NoMemory."""
+        self._taken: dict[int, collections.deque[dict]] = collections.defaultdict(collections.deque)
         super().__init__(room, (_SIZE * max(len(rings), 1))(*rings), len(rings))
 
     def seat(self, number: int = 1) -> Seat:
@@ -340,7 +336,7 @@ class Client(_Open):
 class Seat:
     """A seat of a client, which is told of its own listeners and requests.
 
-    Its calls raise Refused, WrongSeat, MailboxFull, BadText, Failed, NoMemory, and Closed."""
+    Its calls raise Refused, WrongSeat, BadText, Failed, NoMemory, and Closed."""
 
     def __init__(self, client: Client, number: int):
         self._client, self.number = client, number
@@ -352,7 +348,7 @@ class Seat:
 
     def unlisten(self, listener: int) -> None:
         """Ends a listener of the seat."""
-        self._client._done("unlisten", self.number, listener)
+        self._made("unlisten", listener)
 
     def set(self, path: str, value: Any) -> int:
         """Writes a value at a path, and gives the number of the request; None removes. Numbers are whole: 5.0 is 5, and 0.5 raises Refused."""
@@ -388,12 +384,17 @@ class Seat:
     def items(self) -> Iterator[dict]:
         """What the seat is told, in order, until nothing waits for it."""
         while True:
-            self._client._done("settle", self.number)
-            status, text = self._client._text("next", self.number)
-            if status == NONE:
+            taken = self._client._taken.get(self.number)
+            item = taken.popleft() if taken else self._next()
+            if item is None:
                 return
-            self._client._checked(status)
-            yield json.loads(text)
+            yield item
+
+    def _next(self) -> Optional[dict]:
+        """The next item of the seat's ring, which has what waits for it first."""
+        self._client._done("settle", self.number)
+        status, text = self._client._text("next", self.number)
+        return json.loads(text) if status != NONE and self._client._checked(status) else None
 
     __iter__ = items
 
@@ -407,5 +408,13 @@ class Seat:
 
     def _numbered(self, name: str, *given: Any) -> int:
         number = _NUMBER()
-        self._client._done(name, self.number, *given, ctypes.byref(number))
+        self._made(name, *given, ctypes.byref(number))
         return number.value
+
+    def _made(self, name: str, *given: Any) -> None:
+        """Makes a call of the seat, and once more where its ring was full, when what was in it is taken out."""
+        status = self._client._status(name, self.number, *given)
+        if status == MAILBOX_FULL:
+            self._client._taken[self.number].extend(iter(self._next, None))
+            status = self._client._status(name, self.number, *given)
+        self._client._checked(status)

@@ -111,6 +111,16 @@ class Clients(unittest.TestCase):
             ann.unlisten(listener)
             self.assertEqual(client.cover(), ["T none"])
 
+    def test_a_full_ring_refuses_nothing(self):
+        with kaltewi.Client(rings=[1, 1]) as client:
+            ann, bob = client.seat(1), client.seat(2)
+            numbers = [ann.set("/a", it) for it in range(200)]
+            self.assertEqual(next(iter(ann)), {"k": "wrote", "id": 1})
+            listener = bob.listen("/a")
+            bob.unlisten(listener)
+            self.assertEqual([it["id"] for it in client.seat(1)], numbers[1:])
+            self.assertEqual([it["k"] for it in bob], ["listened", "batch", "unlistened"])
+
     def test_push_ids_rise(self):
         with kaltewi.Client() as client:
             self.assertEqual(client.push_key(1_700_000_000_000, bytes(12)), "-NjEtLV-------------")
@@ -133,9 +143,6 @@ class Clients(unittest.TestCase):
                 client.receive(b"\xff")
             with self.assertRaises(kaltewi.WrongSeat):
                 client.seat(2).set("/a", 1)
-            ann.set("/a", 1)
-            with self.assertRaises(kaltewi.MailboxFull):
-                ann.set("/a", 2)
             with self.assertRaises(kaltewi.TooManySeats):
                 kaltewi.Client(rings=[1] * 65)
 

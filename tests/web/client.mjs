@@ -69,11 +69,23 @@ test("what is refused changes nothing", () => {
     assert.deepEqual(sent(client), [{ k: "hello", version: 2 }]);
 });
 
-test("a full ring, and texts of any length", () => {
+test("a full ring refuses nothing, and loses nothing", () => {
     const client = new Client(1);
-    client.set("/a", "1");
-    refused("client/MailboxFull", () => client.set("/b", "1"));
-    assert.deepEqual([...client.items()], [{ id: 1, k: "wrote" }]);
+    for (let k = 0; k < 1000; k++) client.set(`/a/${k % 7}`, String(k));
+    const items = client.items();
+    assert.deepEqual([items.next().value, items.next().value], [1, 2].map(id => ({ id, k: "wrote" })));
+    items.return(); // the others are still to be had
+    const listener = client.listen("/a/0");
+    client.unlisten(listener);
+    const told = [...client.items()];
+    assert.deepEqual(told.slice(0, 998).map(it => it.id), Array.from({ length: 998 }, (_, k) => k + 3));
+    assert.deepEqual(told.slice(998).map(it => it.k), ["listened", "batch", "unlistened"]);
+    assert.deepEqual([...client.items()], []);
+});
+
+test("a client takes little, and as much as is needed", () => {
+    const client = new Client();
+    assert.ok(client.memory < 1.25 * 1048576, `${client.memory}`);
     client.connected();
     client.listen("/many");
     const many = Object.fromEntries(Array.from({ length: 20000 }, (_, at) => [`key ${String(at).padStart(8, "0")}`, "ü".repeat(20)]));

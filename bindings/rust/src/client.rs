@@ -2,13 +2,19 @@
 
 use crate::error::{error_of, Error};
 use crate::raw;
+use std::collections::{BTreeMap, VecDeque};
 
 /// A client with its seats, which are numbered from 1. Its texts go to the server and come from it by the program's own connection. It closes
 /// where it is dropped.
-pub struct Client(raw::Handle);
+pub struct Client {
+    handle: raw::Handle,
+    // What was taken out of the full rings of seats, by their numbers, and is still to be told.
+    taken: BTreeMap<u64, VecDeque<String>>,
+}
 
 impl Client {
-    /// Opens a client with a seat for each of `rings`, which says how many items the seat's ring holds.
+    /// Opens a client with a seat for each of `rings`, which says how many items wait inside for the seat: where its ring is full they wait
+    /// here, and no call is refused.
     ///
     /// # Errors
     ///
@@ -17,7 +23,7 @@ impl Client {
         let mut handle = raw::Handle::closed();
         // SAFETY: the handle is closed, as the header asks, and nobody else has it; the pointer and the length are a slice's.
         match unsafe { raw::kw_client_open(&mut handle, rings.as_ptr(), rings.len()) } {
-            raw::DONE => Ok(Client(handle)),
+            raw::DONE => Ok(Client { handle, taken: BTreeMap::new() }),
             other => Err(error_of(other)),
         }
     }
@@ -34,7 +40,7 @@ impl Client {
     /// `Refused` where one stands, `Failed`, `NoMemory`.
     pub fn connected(&mut self) -> Result<(), Error> {
         // SAFETY: the handle is this client's own.
-        let status = unsafe { raw::kw_client_connected(&mut self.0) };
+        let status = unsafe { raw::kw_client_connected(&mut self.handle) };
         self.checked(status)
     }
 
@@ -54,7 +60,7 @@ impl Client {
     /// ```
     pub fn disconnected(&mut self) -> Result<(), Error> {
         // SAFETY: the handle is this client's own.
-        let status = unsafe { raw::kw_client_disconnected(&mut self.0) };
+        let status = unsafe { raw::kw_client_disconnected(&mut self.handle) };
         self.checked(status)
     }
 
@@ -66,7 +72,7 @@ impl Client {
     pub fn receive(&mut self, message: impl AsRef<[u8]>) -> Result<bool, Error> {
         let text = message.as_ref();
         // SAFETY: the pointer and the length are a slice's, which nobody writes while it is borrowed.
-        match unsafe { raw::kw_client_server_message(&mut self.0, text.as_ptr(), text.len()) } {
+        match unsafe { raw::kw_client_server_message(&mut self.handle, text.as_ptr(), text.len()) } {
             raw::STALE => Ok(false),
             status => self.checked(status).map(|()| true),
         }
@@ -84,7 +90,7 @@ impl Client {
     /// `Failed`, `NoMemory`.
     pub fn cover(&mut self) -> Result<String, Error> {
         // SAFETY: the room is a vector's, which nothing else borrows.
-        let (status, text) = raw::text_by(|out, room, len| unsafe { raw::kw_client_cover(&mut self.0, out, room, len) });
+        let (status, text) = raw::text_by(|out, room, len| unsafe { raw::kw_client_cover(&mut self.handle, out, room, len) });
         self.checked(status).map(|()| text)
     }
 
@@ -104,10 +110,38 @@ impl Client {
     pub fn push_key(&mut self, now_ms: u64, random: [u8; 12]) -> Result<String, Error> {
         let call = |out: *mut u8, room: usize, len: &mut usize| {
             // SAFETY: the room is a vector's, which nothing else borrows.
-            unsafe { raw::kw_client_push_key(&mut self.0, now_ms, &random, out, room, len) }
+            unsafe { raw::kw_client_push_key(&mut self.handle, now_ms, &random, out, room, len) }
         };
         let (status, text) = raw::text_by(call);
         self.checked(status).map(|()| text)
+    }
+
+    /// What that seat is told next, if anything waits for it.
+    fn next(&mut self, seat: u64) -> Result<Option<String>, Error> {
+        match self.taken.get_mut(&seat).and_then(VecDeque::pop_front) {
+            Some(item) => Ok(Some(item)),
+            None => self.next_of_ring(seat),
+        }
+    }
+
+    /// The next item of that seat's ring, which has what waits for it first.
+    fn next_of_ring(&mut self, seat: u64) -> Result<Option<String>, Error> {
+        // SAFETY: the handle is this client's own.
+        let status = unsafe { raw::kw_client_settle(&mut self.handle, seat) };
+        self.checked(status)?;
+        // SAFETY: the room is a vector's, which nothing else borrows.
+        match raw::text_by(|out, room, len| unsafe { raw::kw_client_next(&mut self.handle, seat, out, room, len) }) {
+            (raw::NONE, _) => Ok(None),
+            (status, text) => self.checked(status).map(|()| Some(text)),
+        }
+    }
+
+    /// Takes out what is in that seat's ring and waits for it.
+    fn make_room(&mut self, seat: u64) -> Result<(), Error> {
+        while let Some(item) = self.next_of_ring(seat)? {
+            self.taken.entry(seat).or_default().push_back(item);
+        }
+        Ok(())
     }
 
     /// What a status means, by a look at the client where a layer refused.
@@ -123,7 +157,7 @@ impl Client {
     fn refusal(&mut self) -> Error {
         let mut code = 0;
         // SAFETY: the room is a vector's, which nothing else borrows.
-        let (status, words) = raw::text_by(|out, room, len| unsafe { raw::kw_client_error(&mut self.0, &mut code, out, room, len) });
+        let (status, words) = raw::text_by(|out, room, len| unsafe { raw::kw_client_error(&mut self.handle, &mut code, out, room, len) });
         match words.split_once(' ') {
             Some((layer, name)) => Error::Refused { layer: layer.to_string(), name: name.to_string(), code },
             None => error_of(status),
@@ -134,7 +168,7 @@ impl Client {
 impl Drop for Client {
     fn drop(&mut self) {
         // SAFETY: the handle is this client's own.
-        unsafe { raw::kw_client_close(&mut self.0) }
+        unsafe { raw::kw_client_close(&mut self.handle) }
     }
 }
 
@@ -151,7 +185,7 @@ impl Iterator for Outgoing<'_> {
         if self.is_over {
             return None;
         }
-        let handle = &mut self.client.0;
+        let handle = &mut self.client.handle;
         // SAFETY: the room is a vector's, which nothing else borrows.
         let (status, text) = raw::text_by(|out, room, len| unsafe { raw::kw_client_take_outgoing(handle, out, room, len) });
         self.is_over = status != raw::DONE;
@@ -165,7 +199,7 @@ impl Iterator for Outgoing<'_> {
 /// A seat of a client, which is told of its own listeners and requests.
 ///
 /// Each call answers the number of the new listener or request. Paths are texts as `/a/b`, trees are JSON, and entries are an object of trees
-/// by their paths. A call is refused by `Refused`, `BadText`, `WrongSeat`, `MailboxFull`, `Failed` and `NoMemory`.
+/// by their paths. A call is refused by `Refused`, `BadText`, `WrongSeat`, `Failed` and `NoMemory`.
 pub struct Seat<'a> {
     client: &'a mut Client,
     number: u64,
@@ -190,12 +224,10 @@ impl Seat<'_> {
     /// ```
     pub fn listen(&mut self, path: &str, query: Option<&str>) -> Result<u64, Error> {
         let q = query.unwrap_or("");
-        let mut listener = 0;
         // SAFETY: each pointer and its length are a text's, which nobody writes while it is borrowed.
-        let status = unsafe {
-            raw::kw_client_listen(&mut self.client.0, self.number, path.as_ptr(), path.len(), q.as_ptr(), q.len(), &mut listener)
-        };
-        self.client.checked(status).map(|()| listener)
+        self.numbered(|handle, seat, listener| unsafe {
+            raw::kw_client_listen(handle, seat, path.as_ptr(), path.len(), q.as_ptr(), q.len(), listener)
+        })
     }
 
     /// Ends a listener of the seat.
@@ -205,8 +237,7 @@ impl Seat<'_> {
     /// As of [`Seat`].
     pub fn unlisten(&mut self, listener: u64) -> Result<(), Error> {
         // SAFETY: the handle is the client's own.
-        let status = unsafe { raw::kw_client_unlisten(&mut self.client.0, self.number, listener) };
-        self.client.checked(status)
+        self.numbered(|handle, seat, _| unsafe { raw::kw_client_unlisten(handle, seat, listener) }).map(|_| ())
     }
 
     /// Sets a tree at a path; null removes.
@@ -225,12 +256,10 @@ impl Seat<'_> {
     /// # }
     /// ```
     pub fn set(&mut self, path: &str, tree: &str) -> Result<u64, Error> {
-        let mut request = 0;
         // SAFETY: each pointer and its length are a text's, which nobody writes while it is borrowed.
-        let status = unsafe {
-            raw::kw_client_set(&mut self.client.0, self.number, path.as_ptr(), path.len(), tree.as_ptr(), tree.len(), &mut request)
-        };
-        self.client.checked(status).map(|()| request)
+        self.numbered(|handle, seat, request| unsafe {
+            raw::kw_client_set(handle, seat, path.as_ptr(), path.len(), tree.as_ptr(), tree.len(), request)
+        })
     }
 
     /// Sets several trees, each at its path, in one write.
@@ -239,10 +268,8 @@ impl Seat<'_> {
     ///
     /// As of [`Seat`].
     pub fn update(&mut self, entries: &str) -> Result<u64, Error> {
-        let mut request = 0;
         // SAFETY: the pointer and the length are a text's, which nobody writes while it is borrowed.
-        let status = unsafe { raw::kw_client_update(&mut self.client.0, self.number, entries.as_ptr(), entries.len(), &mut request) };
-        self.client.checked(status).map(|()| request)
+        self.numbered(|handle, seat, request| unsafe { raw::kw_client_update(handle, seat, entries.as_ptr(), entries.len(), request) })
     }
 
     /// Removes what is at a path.
@@ -251,10 +278,8 @@ impl Seat<'_> {
     ///
     /// As of [`Seat`].
     pub fn remove(&mut self, path: &str) -> Result<u64, Error> {
-        let mut request = 0;
         // SAFETY: the pointer and the length are a text's, which nobody writes while it is borrowed.
-        let status = unsafe { raw::kw_client_remove(&mut self.client.0, self.number, path.as_ptr(), path.len(), &mut request) };
-        self.client.checked(status).map(|()| request)
+        self.numbered(|handle, seat, request| unsafe { raw::kw_client_remove(handle, seat, path.as_ptr(), path.len(), request) })
     }
 
     /// Asks the server to set a tree at a path when the connection ends.
@@ -263,13 +288,10 @@ impl Seat<'_> {
     ///
     /// As of [`Seat`].
     pub fn on_disconnect(&mut self, path: &str, tree: &str) -> Result<u64, Error> {
-        let mut request = 0;
-        let (handle, number) = (&mut self.client.0, self.number);
         // SAFETY: each pointer and its length are a text's, which nobody writes while it is borrowed.
-        let status = unsafe {
-            raw::kw_client_on_disconnect(handle, number, path.as_ptr(), path.len(), tree.as_ptr(), tree.len(), &mut request)
-        };
-        self.client.checked(status).map(|()| request)
+        self.numbered(|handle, seat, request| unsafe {
+            raw::kw_client_on_disconnect(handle, seat, path.as_ptr(), path.len(), tree.as_ptr(), tree.len(), request)
+        })
     }
 
     /// Asks the server to set several trees, each at its path, when the connection ends.
@@ -278,11 +300,10 @@ impl Seat<'_> {
     ///
     /// As of [`Seat`].
     pub fn on_disconnect_update(&mut self, entries: &str) -> Result<u64, Error> {
-        let mut request = 0;
-        let (handle, number) = (&mut self.client.0, self.number);
         // SAFETY: the pointer and the length are a text's, which nobody writes while it is borrowed.
-        let status = unsafe { raw::kw_client_on_disconnect_update(handle, number, entries.as_ptr(), entries.len(), &mut request) };
-        self.client.checked(status).map(|()| request)
+        self.numbered(|handle, seat, request| unsafe {
+            raw::kw_client_on_disconnect_update(handle, seat, entries.as_ptr(), entries.len(), request)
+        })
     }
 
     /// Drops what was to be written at and below a path when the connection ends.
@@ -291,11 +312,21 @@ impl Seat<'_> {
     ///
     /// As of [`Seat`].
     pub fn cancel_disconnect(&mut self, path: &str) -> Result<u64, Error> {
-        let mut request = 0;
-        let (handle, number) = (&mut self.client.0, self.number);
         // SAFETY: the pointer and the length are a text's, which nobody writes while it is borrowed.
-        let status = unsafe { raw::kw_client_cancel_disconnect(handle, number, path.as_ptr(), path.len(), &mut request) };
-        self.client.checked(status).map(|()| request)
+        self.numbered(|handle, seat, request| unsafe {
+            raw::kw_client_cancel_disconnect(handle, seat, path.as_ptr(), path.len(), request)
+        })
+    }
+
+    // Makes a call of the seat, and once more where its ring was full, when what was in it is taken out. The number that the call gives.
+    fn numbered(&mut self, mut call: impl FnMut(&mut raw::Handle, u64, &mut u64) -> u32) -> Result<u64, Error> {
+        let mut given = 0;
+        let mut status = call(&mut self.client.handle, self.number, &mut given);
+        if status == raw::MAILBOX_FULL {
+            self.client.make_room(self.number)?;
+            status = call(&mut self.client.handle, self.number, &mut given);
+        }
+        self.client.checked(status).map(|()| given)
     }
 
     /// What the seat is told, in order and as JSON, until nothing waits for it.
@@ -318,16 +349,8 @@ impl Iterator for Items<'_> {
         if self.is_over {
             return None;
         }
-        let (handle, number) = (&mut self.client.0, self.number);
-        // SAFETY: the handle is the client's own.
-        let settled = unsafe { raw::kw_client_settle(handle, number) };
-        // SAFETY: the room is a vector's, which nothing else borrows.
-        let mut call = || raw::text_by(|out, room, len| unsafe { raw::kw_client_next(handle, number, out, room, len) });
-        let (status, text) = if settled == raw::DONE { call() } else { (settled, String::new()) };
-        self.is_over = status != raw::DONE;
-        match status {
-            raw::NONE => None,
-            other => Some(self.client.checked(other).map(|()| text)),
-        }
+        let told = self.client.next(self.number).transpose();
+        self.is_over = !matches!(told, Some(Ok(_)));
+        told
     }
 }

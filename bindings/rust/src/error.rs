@@ -22,8 +22,6 @@ pub enum Error {
     },
     /// The client has no such seat.
     WrongSeat,
-    /// The seat's ring has no room for what waits and the receipt: take items first. The call was not made, so a write is lost unless it is made again.
-    MailboxFull,
     /// More than 64.
     TooManySeats,
     /// Memory lacked: a core or a client may answer nothing else from then on.
@@ -41,7 +39,6 @@ impl fmt::Display for Error {
             Error::BadText => out.write_str("a text is no JSON, or of another form"),
             Error::Refused { layer, name, code } => write!(out, "{layer} {code} {name}"),
             Error::WrongSeat => out.write_str("the client has no such seat"),
-            Error::MailboxFull => out.write_str("the seat's ring is full"),
             Error::TooManySeats => out.write_str("more than 64 seats"),
             Error::NoMemory => out.write_str("memory lacked"),
             Error::Failed => out.write_str("the client has lacked memory before"),
@@ -59,7 +56,6 @@ pub(crate) fn error_of(status: u32) -> Error {
         raw::FAILED => Error::Failed,
         raw::BAD_TEXT => Error::BadText,
         raw::WRONG_SEAT => Error::WrongSeat,
-        raw::MAILBOX_FULL => Error::MailboxFull,
         raw::TOO_MANY_SEATS => Error::TooManySeats,
         other => Error::Unknown(other),
     }

@@ -51,11 +51,24 @@ fn what_is_wrong_is_said() -> Result<(), Error> {
     assert_eq!(client.receive(b"\xff"), Err(Error::BadText));
     assert_eq!(client.receive("{}").unwrap_err().to_string(), "wire 2 UnknownKind");
     assert_eq!(client.seat(1).set("/a", "{").unwrap_err().to_string(), "tree 7 NotJson");
-    client.seat(1).set("/a", "1")?;
-    assert_eq!(client.seat(1).set("/a", "2"), Err(Error::MailboxFull));
     assert_eq!(told(&mut client, 3), Err(Error::WrongSeat));
-    assert_eq!(told(&mut client, 1)?.len(), 1);
-    assert_eq!(client.seat(1).set("/a", "2")?, 2);
+    Ok(())
+}
+
+#[test]
+fn a_full_ring_refuses_nothing() -> Result<(), Error> {
+    let mut client = Client::open(&[1, 1])?;
+    for number in 1..=200 {
+        assert_eq!(client.seat(1).set("/a", &number.to_string())?, number);
+    }
+    let first = client.seat(1).items().next();
+    assert_eq!(first, Some(Ok(r#"{"id":1,"k":"wrote"}"#.to_string())));
+    let listener = client.seat(2).listen("/a", None)?;
+    client.seat(2).unlisten(listener)?;
+    let others: Vec<String> = (2..=200).map(|number| format!(r#"{{"id":{number},"k":"wrote"}}"#)).collect();
+    assert_eq!(told(&mut client, 1)?, others);
+    let batch = r#"{"changes":[{"k":"value","value":200}],"k":"batch","listener":1}"#;
+    assert_eq!(told(&mut client, 2)?, [r#"{"k":"listened","listener":1}"#, batch, r#"{"k":"unlistened","listener":1}"#]);
     Ok(())
 }
 
