@@ -4,6 +4,7 @@ import { mkdtempSync, rmSync, writeFileSync } from "node:fs";
 import { tmpdir } from "node:os";
 import { until } from "./common.mjs";
 
+const KEYS = { Tab: 9, Enter: 13, Escape: 27 };
 const FLAGS = ["--headless=new", "--no-sandbox", "--disable-gpu", "--disable-dev-shm-usage", "--no-first-run", "--remote-debugging-port=0"];
 
 export class Browser {
@@ -73,7 +74,7 @@ class Page {
         if (exceptionDetails) throw new Error(exceptionDetails.exception?.description ?? exceptionDetails.text);
         return result.value;
     }
-    until(expression) { return until(expression, () => this.run(expression).catch(() => false)); }
+    until(expression, seconds) { return until(expression, () => this.run(expression).catch(() => false), seconds); }
     async reload() {
         await this.run("window.isBefore = true");
         await this.send("Page.reload");
@@ -83,8 +84,13 @@ class Page {
     async type(text) {
         await this.send("Page.bringToFront");
         for (const key of text)
-            if (key === "\n") for (const type of ["keyDown", "keyUp"]) await this.send("Input.dispatchKeyEvent", { type, key: "Enter", code: "Enter", windowsVirtualKeyCode: 13, text: type === "keyDown" ? "\r" : undefined });
+            if (key === "\n") await this.press("Enter");
             else await this.send("Input.insertText", { text: key });
+    }
+    async press(key) {
+        await this.send("Page.bringToFront");
+        const of = { key, code: key, windowsVirtualKeyCode: KEYS[key] };
+        for (const type of ["keyDown", "keyUp"]) await this.send("Input.dispatchKeyEvent", { ...of, type, text: type === "keyDown" && key === "Enter" ? "\r" : undefined });
     }
     // As a window of that size, dark or light.
     async look(width, height, isDark) {

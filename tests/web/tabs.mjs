@@ -8,6 +8,7 @@ import { createServer as createPort } from "node:net";
 import { tmpdir } from "node:os";
 import { Browser } from "./browser.mjs";
 import { PACKAGE, kaltewi, pause, read, until } from "./common.mjs";
+import { tree } from "./tree.mjs";
 const { Database, ref, set, get, push, remove, update, onValue, onDisconnect, goOffline } = kaltewi;
 
 const { EMULATE, BROWSER, PYTHON, ROOMS, SHOTS } = process.env;
@@ -103,6 +104,14 @@ async function refusals(ann) {
     })()`);
     assert.equal(told, "1,2,1,PERMISSION_DENIED");
     ok("a refused listener is cancelled, and a refused write is taken back before its promise is rejected");
+}
+
+// Kills the emulate, waits for something, and starts it again.
+async function restart(wait) {
+    await pause(1500); // the tree is in the file within a second
+    await kill();
+    await wait();
+    await start();
 }
 
 async function again(ann, bob) {
@@ -223,7 +232,7 @@ async function rooms(page) {
 
 let browser, late, failed = 0;
 function isLate() {
-    console.log("FAILED  it takes longer than 300 seconds", browser?.said.slice(-5), browser?.faults);
+    console.log("FAILED  it takes longer than 600 seconds", browser?.said.slice(-5), browser?.faults);
     process.exit(1);
 }
 // However this ends, nothing that it has begun goes on.
@@ -233,10 +242,11 @@ process.on("exit", () => {
 });
 try {
     await start();
-    late = setTimeout(isLate, 300000);
+    late = setTimeout(isLate, 600000);
     browser = await Browser.open(BROWSER);
     await tabs(browser);
     await example(browser);
+    await tree({ browser, url: `${at}/js/examples/tree/?db=${db}`, node: new Database(db), restart, ok, shots: SHOTS });
     assert.deepEqual(browser.faults, []);
     ok("no error in a console");
 } catch (why) {

@@ -1,0 +1,158 @@
+// The page bindings/js/examples/tree, used by the keyboard alone beside an emulate that tabs.mjs has started.
+import assert from "node:assert/strict";
+import { kaltewi, until } from "./common.mjs";
+const { get, goOffline, ref, remove, set, update } = kaltewi;
+
+// The rows as they are shown, each with its key and its value.
+const ROWS = "[...document.querySelectorAll('#tree .row')].map(it => [...it.children].slice(0, 2).map(it => it.textContent).join(' ')).join('\\n')";
+const are = (...wanted) => `${ROWS} === ${JSON.stringify(wanted.join("\n"))}`;
+const shows = (page, ...wanted) => page.until(are(...wanted));
+const says = (page, words) => page.until(`document.getElementById('why').textContent.includes(${JSON.stringify(words)})`);
+const logs = (page, words) => page.until(`document.getElementById('log').innerText.includes(${JSON.stringify(words)})`);
+// The Tab key, until that is so of what has the focus, `it`.
+async function goes(page, is) {
+    for (let k = 0; k < 100; k++) {
+        if (await page.run(`(it => ${is})(document.activeElement)`)) return;
+        await page.press("Tab");
+    }
+    assert.fail(`the Tab key comes to nothing where ${is}`);
+}
+const button = (row, name) => `it.textContent === '${name}' && it.closest('.row')?.children[0].textContent.endsWith('${row}')`;
+async function presses(page, row, name) {
+    await goes(page, button(row, name));
+    await page.press("Enter");
+    await page.until("document.activeElement.tagName === 'INPUT'");
+}
+
+async function changes(page, node) {
+    await shows(page, "▾ page {2}", "▾ a {2}", "x 1", 'y "t"', "b true");
+    await update(ref(node, "page"), { "a/x": 2, c: null, "d/e/f": 1 });
+    await shows(page, "▾ page {3}", "▾ a {2}", "x 2", 'y "t"', "b true", "▾ d {1}", "▾ e {1}", "f 1");
+    await logs(page, "/page/a/x 1 → 2");
+    await logs(page, '/page/d {"e":{"f":1}} added');
+    assert.ok(await page.run("[...document.querySelectorAll('.lit')].some(it => it.textContent.startsWith('x2'))"));
+    await remove(ref(node, "page/d/e"));
+    await shows(page, "▾ page {2}", "▾ a {2}", "x 2", 'y "t"', "b true");
+}
+
+async function edits(page, node) {
+    await presses(page, "x", "edit");
+    await page.type("5\n");
+    await shows(page, "▾ page {2}", "▾ a {2}", "x 5", 'y "t"', "b true");
+    assert.equal((await get(ref(node, "page/a/x"))).val(), 5);
+    await presses(page, "b", "edit");
+    await page.type("1.5\n");
+    await says(page, "tree/NotWhole");
+    await presses(page, "b", "edit");
+    await page.press("Escape");
+    await presses(page, "b", "add");
+    await page.type("no.key\n");
+    await says(page, "tree/BadKey");
+    await presses(page, "b", "add");
+    await page.type("k");
+    await page.press("Tab");
+    await page.type("of <i>hand</i>\n");
+    await shows(page, "▾ page {2}", "▾ a {2}", "x 5", 'y "t"', "▾ b {1}", 'k "of <i>hand</i>"');
+    await goes(page, button("k", "remove"));
+    await page.press("Enter");
+    await shows(page, "▾ page {1}", "▾ a {2}", "x 5", 'y "t"');
+    await goes(page, "it.classList.contains('key') && it.textContent === '▾ a'");
+    await page.press("Enter");
+    await shows(page, "▾ page {1}", "▸ a {2}");
+    await page.press("Enter");
+    await shows(page, "▾ page {1}", "▾ a {2}", "x 5", 'y "t"');
+}
+
+// A leaf, nothing, and a tree again; and a path that is denied.
+async function places(page, node) {
+    await set(ref(node, "page"), "a leaf");
+    await shows(page, 'page "a leaf"');
+    await remove(ref(node, "page"));
+    await shows(page, "page null");
+    await presses(page, "page", "add");
+    await page.press("Tab");
+    await page.type("7\n");
+    await until("it has a push id", async () => /^▾ page \{1\}\n-\S{19} 7$/.test(await page.run(ROWS)));
+    await goes(page, "it.id === 'path'");
+    await page.run("document.activeElement.select()");
+    await page.type("/secret\n");
+    await page.until("location.search.includes('secret') && document.readyState === 'complete'");
+    await says(page, "PERMISSION_DENIED: denied");
+    await page.run("document.getElementById('why').textContent = ''");
+    await presses(page, "secret", "add");
+    await page.type("x");
+    await page.press("Tab");
+    await page.type("1\n");
+    await says(page, "PERMISSION_DENIED: denied");
+}
+
+const shown = value => Object.entries(value).map(([key, it]) => `${key} ${JSON.stringify(it)}`);
+async function quick(page, node) {
+    await Promise.all(Array.from({ length: 1000 }, (_, k) => set(ref(node, `page/q${String(k % 25).padStart(2, "0")}`), k)));
+    const tree = (await get(ref(node, "page"))).val();
+    await page.until(are(`▾ page {${Object.keys(tree).length}}`, ...shown(tree)), 120);
+}
+
+async function files(page, node) {
+    await set(ref(node, "page"), { x: 1, list: ["a", "b"] });
+    await shows(page, "▾ page {2}", "▾ list {2}", '0 "a"', '1 "b"', "x 1");
+    const text = await page.run(`(async () => {
+        let made;
+        const { click } = HTMLAnchorElement.prototype, { createObjectURL } = URL;
+        URL.createObjectURL = it => { made = it; return ""; };
+        HTMLAnchorElement.prototype.click = () => {};
+        document.getElementById("export").click();
+        while (!made) await new Promise(resolve => setTimeout(resolve, 10));
+        Object.assign(URL, { createObjectURL });
+        Object.assign(HTMLAnchorElement.prototype, { click });
+        return made.text();
+    })()`);
+    assert.deepEqual(JSON.parse(text), { x: 1, list: ["a", "b"] });
+    const brings = text => page.run(`(() => {
+        const it = document.getElementById("import"), files = new DataTransfer();
+        files.items.add(new File([${JSON.stringify(text)}], "tree.json"));
+        it.files = files.files;
+        it.dispatchEvent(new Event("change"));
+    })()`);
+    await brings('{"y":{"z":[true]}}');
+    await shows(page, "▾ page {1}", "▾ y {1}", "▾ z {1}", "0 true");
+    await brings("{");
+    await says(page, "SyntaxError");
+}
+
+async function looks(page, shots) {
+    for (const width of [400, 1400])
+        for (const isDark of [false, true]) {
+            await page.look(width, 500, isDark);
+            const [wide, color] = await page.run("[document.documentElement.scrollWidth, getComputedStyle(document.body).color]");
+            assert.ok(wide <= width, `${wide} of ${width}`);
+            assert.equal(color, isDark ? "rgb(255, 255, 255)" : "rgb(0, 0, 0)");
+            if (shots) await page.shot(`${shots}/tree-${width}-${isDark ? "dark" : "light"}.png`);
+        }
+}
+
+export async function tree({ browser, url, node, restart, ok, shots }) {
+    await set(ref(node, "page"), { a: { x: 1, y: "t" }, b: true });
+    const page = await browser.page(`${url}&path=page`);
+    await changes(page, node);
+    ok("bindings/js/examples/tree: what changes is shown, lit and told");
+    await edits(page, node);
+    ok("bindings/js/examples/tree: values are edited, added, removed and refused, by the keyboard alone");
+    await places(page, node);
+    await page.close();
+    ok("bindings/js/examples/tree: a leaf, nothing, and a path that is denied");
+    await set(ref(node, "page"), { q: 0 });
+    const again = await browser.page(`${url}&path=page`);
+    await shows(again, "▾ page {1}", "q 0");
+    await restart(() => again.until("document.getElementById('up').textContent === 'no connection'"));
+    await again.until("document.getElementById('up').textContent === 'connected'");
+    await again.reload();
+    await quick(again, node);
+    ok("bindings/js/examples/tree: a thousand quick changes, behind a new emulate and a reload");
+    await files(again, node);
+    ok("bindings/js/examples/tree: an export and an import");
+    await looks(again, shots);
+    ok("bindings/js/examples/tree: 400 and 1,400 pixels wide, dark and light");
+    await again.close();
+    goOffline(node);
+}
