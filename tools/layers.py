@@ -22,7 +22,7 @@ LAYERS = {
     "messages": "rt_wire",
     "core": "rt_world rt_parts rt_sync",
     "client": "rt_mail rt_client",
-    "server": "rt_peer rt_hub rt_turns",
+    "server": "rt_peer rt_hub",
     "sockets": "rt_socket rt_serve rt_link rt_journal rt_emulate",
     "console": "rt_lines rt_script rt_drive rt_watch rt_words rt_commands rt_console",
     "other languages": "rt_foreign rt_ffi",

@@ -76,7 +76,7 @@ CALLS_OF = {
     "high": ("rt_view", "rt_wire", "rt_world", "rt_parts", "rt_sync"),
     "mail": ("rt_mail",),
     "client": ("rt_client", "rt_push"),
-    "peer": ("rt_peer", "rt_hub", "rt_turns"),
+    "peer": ("rt_peer", "rt_hub"),
 }
 
 

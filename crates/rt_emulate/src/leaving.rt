@@ -6,8 +6,7 @@ ghost use Rattle.rt_emulate.specs.inside.Leaving.{LeavesOn, notes_turn};
 
 use crate::halt::Halt;
 use crate::keeper::Keeper;
-use rt_hub::Hub;
-use rt_turns::{TURN_ACTIONS, leave};
+use rt_hub::{Hub, TURN_ACTIONS, leave};
 use std::alloc::{AllocError, Global};
 use std::collections::VecDeque;
 use std::marker::Model;

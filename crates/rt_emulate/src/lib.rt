@@ -10,7 +10,7 @@
 //! pen.end(rt, &mut diary);
 //! ```
 //!
-//! What a message does is decided by `rt_hub`, and how texts are taken and handed over by `rt_turns`. This
+//! What a message does, and how texts are taken and handed over, is decided by `rt_hub`. This
 //! crate is the edge: streams, handshakes, turns, what is due of a silent client, and the tree's file.
 #![tactic(auto)]
 

@@ -1,7 +1,7 @@
 // A WebSocket as a door.
 ghost use Rattle.std.specs.Prelude.{◌≡◌, [], true, false, None, IfOk, OnOk, Ok};
 ghost use Rattle.tungstenite.specs.Content.{text as Text};
-ghost use Rattle.rt_turns.specs.declared.door.Flushed.{Flushed};
+ghost use Rattle.rt_hub.specs.declared.door.Flushed.{Flushed};
 ghost use Rattle.rt_emulate.specs.inside.Endings.{ending_of};
 ghost use Rattle.rt_emulate.specs.inside.Sockets.{Hears, IsSaid, Puts, ReadsOn, ReadsOne, Sends};
 ghost use Rattle.rt_emulate.specs.inside.Sockets.{broken_by, code_in, judged};
@@ -11,9 +11,8 @@ ghost use Rattle.rt_emulate.specs.inside.Sockets.{unsent_by, unsent_with};
 use crate::broken::{Broken, done};
 use crate::ending::Ending;
 use mio::net::TcpStream;
-use rt_hub::MAX_WAITING_BYTES;
+use rt_hub::{Door, Flushed, Heard, MAX_WAITING_BYTES};
 use rt_input::Counted;
-use rt_turns::{Door, Flushed, Heard};
 use rt_wire::is_crowded;
 use std::alloc::{AllocError, Global};
 use std::io::Write;

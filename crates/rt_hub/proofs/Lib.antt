@@ -1,8 +1,14 @@
 mod Bytes
 mod Done
+mod Faults
+mod Handing
+mod Hearing
+mod Joining
 mod Judged
 mod Known
+mod Members
 mod Places
 mod Served
 mod Slowest
+mod Taking
 mod Totals

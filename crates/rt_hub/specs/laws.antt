@@ -1,3 +1,4 @@
 pub mod Examples
 pub mod Queues
+pub mod Refusals
 pub mod Verdicts

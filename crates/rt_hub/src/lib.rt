@@ -15,18 +15,38 @@
 //! request for the end of one that has as many as it may is refused. So is a write that would make the tree's
 //! text longer than one that is sent; a listen to such a tree is revoked.
 //!
+//! A turn carries texts between a hub and a door, which gives and takes them, for one connection:
+//!
+//! ```text
+//! let mut notes = Notes::new(alloc);
+//! take_turn(alloc, &mut hub, &mut door, connection, 64, &mut notes, log)?; // takes 64 messages
+//! hand_over(&mut hub, &mut door, connection)?;                             // gives it what waits
+//! leave(&mut hub, connection, &mut notes.told)?;                           // a turn of its end
+//! ```
+//!
+//! The notes then have the connections to which something was sent, what this one is answered for requests
+//! that can't be taken, and those that were accepted. What a door gives and takes is seen by contracts where
+//! it is known, as the bytes of std's readers and writers are (`specs/Doors.antt`).
+//!
 //! A contract sees a hub as what it holds (`specs/Hubs.antt`), none once it has lacked memory.
 #![tactic(auto)]
 
 mod bar;
 mod bounds;
 mod calls;
+mod door;
 mod examples;
 mod growth;
+mod hand;
 mod hub;
 mod laws;
+mod leaving;
 mod line;
 mod lines;
+mod notes;
+mod refusal;
+mod take;
+mod telling;
 mod verdict;
 mod waiting;
 
@@ -34,7 +54,12 @@ pub use bounds::{
     Bounds, MAX_ACTIONS, MAX_LISTENS, MAX_TREE_BYTES, MAX_WAITING_BYTES, MAX_WAITING_IN_ALL,
     MAX_WAITING_MESSAGES,
 };
-pub use examples::line_examples;
+pub use door::{Door, Flushed, Heard};
+pub use examples::{line_examples, others_are_not_answered, refusals_say_why};
+pub use hand::{Handed, ROUNDS, hand_over};
 pub use hub::{Hub, Taken};
 pub use laws::{queue_law, verdict_law};
+pub use leaving::{TURN_ACTIONS, leave};
+pub use notes::{Accepted, Notes};
+pub use take::{Turn, take_turn};
 pub use verdict::{Verdict, When};

@@ -1,11 +1,10 @@
 // What no clause of turns says: that texts go both ways with memory, and where a door blocks or fails.
 ghost use Rattle.std.specs.Prelude.{Some, map, string_bytes, option_map};
 
-use rt_hub::{Bounds, Hub};
+use rt_hub::{Bounds, Door, Flushed, Handed, Heard, Hub, Notes, Turn, hand_over, leave, take_turn};
 use rt_input::Silent;
 use rt_peer::PeerError;
 use rt_tree::Tree;
-use rt_turns::{Door, Flushed, Handed, Heard, Notes, Turn, hand_over, leave, take_turn};
 use std::alloc::{AllocError, Global};
 use std::collections::VecDeque;
 use std::process::Abort;

@@ -4,14 +4,14 @@ use Rattle.std.specs.Prelude.{List, [], ◌∷◌, ◌++◌, Option, Some, None,
 use Rattle.std.specs.Option.{is_none, option_and_then, option_map, option_map_or}
 use Rattle.slab.specs.Slab.{get}
 use Rattle.rt_hub.specs.Hubs.{Hub, has_too_many_in, line_in}
-use Rattle.rt_turns.specs.Handing.{Hands}
-use Rattle.rt_turns.specs.Turns.{HearsTurn}
-use Rattle.rt_turns.specs.declared.door.Flushed.{Flushed}
-use Rattle.rt_turns.specs.declared.hand.Handed.{Handed}
-use Rattle.rt_turns.specs.declared.hand.Handed.TheVariants as hand
-use Rattle.rt_turns.specs.declared.notes.Notes.{Notes}
-use Rattle.rt_turns.specs.declared.take.Turn.{Turn}
-use Rattle.rt_turns.specs.declared.take.Turn.TheVariants as turn
+use Rattle.rt_hub.specs.Handing.{Hands}
+use Rattle.rt_hub.specs.Turns.{HearsTurn}
+use Rattle.rt_hub.specs.declared.door.Flushed.{Flushed}
+use Rattle.rt_hub.specs.declared.hand.Handed.{Handed}
+use Rattle.rt_hub.specs.declared.hand.Handed.TheVariants as hand
+use Rattle.rt_hub.specs.declared.notes.Notes.{Notes}
+use Rattle.rt_hub.specs.declared.take.Turn.{Turn}
+use Rattle.rt_hub.specs.declared.take.Turn.TheVariants as turn
 use Rattle.rt_emulate.specs.declared.emulator.Emulator.{Emulator}
 use Rattle.rt_emulate.specs.declared.emulator.TheConstants.{LINES_MS}
 use Rattle.rt_emulate.specs.declared.ending.Ending.{Ending}

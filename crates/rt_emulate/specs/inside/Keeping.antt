@@ -6,7 +6,7 @@ use Rattle.rt_journal.specs.Books.{with_end, with_request, with_turn}
 use Rattle.rt_journal.specs.Journals.{Journal}
 use Rattle.rt_journal.specs.declared.book.Noted.{Noted}
 use Rattle.rt_journal.specs.declared.book.Noted.TheVariants as note
-use Rattle.rt_turns.specs.declared.notes.Accepted.{Accepted}
+use Rattle.rt_hub.specs.declared.notes.Accepted.{Accepted}
 
 abbrev pub noted_of : When → Noted
 noted_of Now = note.Write

@@ -11,10 +11,10 @@ use Rattle.tungstenite.specs.declared.error.Error.{Error}
 use Rattle.tungstenite.specs.declared.message.CloseFrame.{CloseFrame}
 use Rattle.tungstenite.specs.declared.message.Message.{Message}
 use Rattle.tungstenite.specs.declared.message.Message.TheVariants.{Text, Binary, Ping, Pong, Close}
-use Rattle.rt_turns.specs.declared.door.Flushed.{Flushed}
-use Rattle.rt_turns.specs.declared.door.Flushed.TheVariants as flush
-use Rattle.rt_turns.specs.declared.door.Heard.{Heard}
-use Rattle.rt_turns.specs.declared.door.Heard.TheVariants as heard
+use Rattle.rt_hub.specs.declared.door.Flushed.{Flushed}
+use Rattle.rt_hub.specs.declared.door.Flushed.TheVariants as flush
+use Rattle.rt_hub.specs.declared.door.Heard.{Heard}
+use Rattle.rt_hub.specs.declared.door.Heard.TheVariants as heard
 use Rattle.rt_wire.specs.Crowds.{is_crowded}
 use Rattle.rt_emulate.specs.declared.broken.Broken.{Broken}
 use Rattle.rt_emulate.specs.declared.broken.Broken.TheVariants.{Crowded}

@@ -1,6 +1,0 @@
-mod Faults
-mod Handing
-mod Hearing
-mod Joining
-mod Members
-mod Taking

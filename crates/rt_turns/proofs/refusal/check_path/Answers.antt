@@ -1,8 +1,0 @@
-use Rattle.rt_tree.specs.Path.{path_fault}
-use Rattle.rt_turns.proofs.Faults.{no_fault}
-use Rattle.rt_turns.proofs.refusal.check_path.Goals as goal
-
-pub returns-clause-ok : goal.returns-clause-ok
-returns-clause-ok c =
-    no_fault (path_fault c.args.text.now) c.parse.result c.in_ok-_path._path c.in_ok-_path.was
-    c.parse.ensures.refused
