@@ -4,11 +4,11 @@ use Rattle.std.specs.Prelude.{◌&&◌}
 use Rattle.std.specs.Option.{option_map_or}
 use Rattle.rt_tree.specs.PathTree.{Key, Path, key_eq, key_eq-is, key_eq-symm}
 use Rattle.rt_query.specs.Queries.{Query, is_filtered}
-use Rattle.rt_links.specs.Forest.{bare, times, Sound}
-use Rattle.rt_links.specs.Walks.{spot_in, index_in}
-use Rattle.rt_links.specs.Changes.{with_below, planted}
-use Rattle.rt_links.specs.declared.row.Spot.TheVariants.{Gap}
-use Rattle.rt_links.proofs.Paths.{here, index_spot}
+use Rattle.rt_nodes.specs.Forest.{bare, times, Sound}
+use Rattle.rt_nodes.specs.Walks.{spot_in, index_in}
+use Rattle.rt_nodes.specs.Changes.{with_below, planted}
+use Rattle.rt_nodes.specs.declared.row.Spot.TheVariants.{Gap}
+use Rattle.rt_nodes.proofs.Paths.{here, index_spot}
 use Rattle.rt_forms.specs.Numbers.{with_number}
 use Rattle.rt_forms.specs.inside.Trees.{Standing, Trees, seen, seen_in, child_in, IsStanding, same_path, alike, Gained, Adds, AddsIn, empty, passed}
 use Rattle.rt_forms.proofs.RowLaws.{child_lacks, child_planted, total_planted, good_planted, child_with_below, total_with_below, good_with_below, good_child}

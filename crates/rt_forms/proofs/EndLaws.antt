@@ -3,10 +3,10 @@ use Rattle.std.proofs.Common.{◌≡◌, ◌<◌, ◌+◌, ℕ, [], ◌∷◌, �
 use Rattle.std.specs.List.{list_any}
 use Rattle.rt_tree.specs.PathTree.{Key, Path}
 use Rattle.rt_query.specs.Queries.{Query}
-use Rattle.rt_links.specs.Forest.{IsRow, row_at}
-use Rattle.rt_links.specs.Changes.{Changed}
-use Rattle.rt_links.proofs.Reached.{row_at_is}
-use Rattle.rt_links.proofs.Growing.{same_changed}
+use Rattle.rt_nodes.specs.Forest.{IsRow, row_at}
+use Rattle.rt_nodes.specs.Changes.{Changed}
+use Rattle.rt_nodes.proofs.Reached.{row_at_is}
+use Rattle.rt_nodes.proofs.Growing.{same_changed}
 use Rattle.rt_forms.specs.Numbers.{without_number}
 use Rattle.rt_forms.specs.Forms.{Forms, numbers, share_form}
 use Rattle.rt_forms.specs.inside.Trees.{Standing, Trees, Nodes, own, seen, seen_in, Ends, Takes, IsTaken, passed}

@@ -7,11 +7,11 @@ use Rattle.slab.specs.Slab.{get}
 use Rattle.rt_tree.specs.PathTree.{Key, Path}
 use Rattle.rt_query.specs.Queries.{Query, is_filtered}
 use Rattle.rt_query.specs.QueryEq.{query_eq}
-use Rattle.rt_links.specs.Forest.{IsRow, row_at}
-use Rattle.rt_links.specs.Walks.{IsPlace, index_in, place_in}
-use Rattle.rt_links.specs.declared.slot.Slot.{Slot}
-use Rattle.rt_links.proofs.Paths.{Found, find_found, find_lacks}
-use Rattle.rt_links.proofs.Reached.{same_some}
+use Rattle.rt_nodes.specs.Forest.{IsRow, row_at}
+use Rattle.rt_nodes.specs.Walks.{IsPlace, index_in, place_in}
+use Rattle.rt_nodes.specs.declared.slot.Slot.{Slot}
+use Rattle.rt_nodes.proofs.Paths.{Found, find_found, find_lacks}
+use Rattle.rt_nodes.proofs.Reached.{same_some}
 use Rattle.rt_forms.specs.Forms.{Forms, numbers, AreFilteredAt}
 use Rattle.rt_forms.specs.inside.Trees.{Standing, Trees, Nodes, AreAt, Good, among, own, seen}
 use Rattle.rt_forms.proofs.ListLaws.{Entries, own_eq, same_eq}

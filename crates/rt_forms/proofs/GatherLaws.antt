@@ -7,11 +7,11 @@ use Rattle.rt_tree.specs.PathTree.{Key, Path, strip}
 use Rattle.rt_tree.specs.Assignments.{is_at_or_above}
 use Rattle.rt_tree.specs.laws.Prefixes.{strip-some, strip-append}
 use Rattle.rt_query.specs.Queries.{Query}
-use Rattle.rt_links.specs.Forest.{node, size, IsRow, row_at}
-use Rattle.rt_links.specs.Walks.{IsPlace, index_in, place_in}
-use Rattle.rt_links.specs.declared.slot.Slot.{Slot}
-use Rattle.rt_links.proofs.Reached.{IsAt, at_place, row_at-none, place_of, place_in_store}
-use Rattle.rt_links.proofs.Paths.{find_found, find_lacks}
+use Rattle.rt_nodes.specs.Forest.{node, size, IsRow, row_at}
+use Rattle.rt_nodes.specs.Walks.{IsPlace, index_in, place_in}
+use Rattle.rt_nodes.specs.declared.slot.Slot.{Slot}
+use Rattle.rt_nodes.proofs.Reached.{IsAt, at_place, row_at-none, place_of, place_in_store}
+use Rattle.rt_nodes.proofs.Paths.{find_found, find_lacks}
 use Rattle.rt_forms.specs.Forms.{Forms, numbers, IsHeardUnder}
 use Rattle.rt_forms.specs.inside.Trees.{Standing, Trees, Nodes, seen, child_in, all_own, all_in, all_at}
 use Rattle.rt_forms.specs.inside.FormsView.{IsForms, all_under}

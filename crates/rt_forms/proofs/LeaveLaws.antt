@@ -8,18 +8,18 @@ use Rattle.std.proofs.lemmas.Bool.{eqb-true}
 use Rattle.slab.specs.Slab.{Slab, get, slab_len}
 use Rattle.rt_tree.specs.PathTree.{Key, Path}
 use Rattle.rt_query.specs.Queries.{Query}
-use Rattle.rt_links.specs.Forest.{Forest, bare, node, times, Links, IsRow, row_at}
-use Rattle.rt_links.specs.Walks.{spot_in, index_in}
-use Rattle.rt_links.specs.Changes.{Changed, InRow, IsHead, below_of, with_below, with_content, without}
-use Rattle.rt_links.specs.declared.slot.Slot.{Slot}
-use Rattle.rt_links.specs.declared.row.Spot.TheVariants.{Here, Gap}
-use Rattle.rt_links.proofs.Reached.{same_some, row_at_is}
-use Rattle.rt_links.proofs.Joining.{slots_same}
-use Rattle.rt_links.proofs.Paths.{here, index_spot, found_in_row}
-use Rattle.rt_links.proofs.Felling.{one_of}
-use Rattle.rt_links.proofs.Taking.{below_is, times_without, later_of}
-use Rattle.rt_links.proofs.Replacing.{with_row, with_changed}
-use Rattle.rt_links.proofs.Growing.{same_changed}
+use Rattle.rt_nodes.specs.Forest.{Forest, bare, node, times, Links, IsRow, row_at}
+use Rattle.rt_nodes.specs.Walks.{spot_in, index_in}
+use Rattle.rt_nodes.specs.Changes.{Changed, InRow, IsHead, below_of, with_below, with_content, without}
+use Rattle.rt_nodes.specs.declared.slot.Slot.{Slot}
+use Rattle.rt_nodes.specs.declared.row.Spot.TheVariants.{Here, Gap}
+use Rattle.rt_nodes.proofs.Reached.{same_some, row_at_is}
+use Rattle.rt_nodes.proofs.Joining.{slots_same}
+use Rattle.rt_nodes.proofs.Paths.{here, index_spot, found_in_row}
+use Rattle.rt_nodes.proofs.Felling.{one_of}
+use Rattle.rt_nodes.proofs.Taking.{below_is, times_without, later_of}
+use Rattle.rt_nodes.proofs.Replacing.{with_row, with_changed}
+use Rattle.rt_nodes.proofs.Growing.{same_changed}
 use Rattle.rt_forms.specs.inside.Trees.{Standing, Trees, Nodes, seen, seen_in, child_in, IsStanding, Good, Ends, Takes, TakesIn, IsTaken, pruned, Loses, MayLeave, Leaves}
 use Rattle.rt_forms.proofs.RowLaws.{child_found, child_lacks, good_child}
 use Rattle.rt_forms.proofs.NodeLaws.{at_row, at_once}

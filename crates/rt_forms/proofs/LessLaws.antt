@@ -7,7 +7,7 @@ use Rattle.std.proofs.lemmas.Bool.Decides.{nat_tests}
 use Rattle.rt_tree.specs.PathTree.{Path}
 use Rattle.rt_query.specs.Queries.{Query, is_filtered}
 use Rattle.rt_query.specs.QueryEq.{query_eq}
-use Rattle.rt_links.proofs.Reached.{same_some}
+use Rattle.rt_nodes.proofs.Reached.{same_some}
 use Rattle.rt_forms.specs.Numbers.{without_number}
 use Rattle.rt_forms.specs.inside.Trees.{Standing, among, own, of_filtered, held, AreAt, alike, Lost}
 use Rattle.rt_forms.specs.inside.Lists.{entry_at, parted}

@@ -2,7 +2,7 @@
 use Rattle.std.proofs.Common.{◌≡◌, ℕ, zero, suc, ◌+◌, ◌==◌, Bool, true, false, cond, not, List, [], ◌∷◌, length, Option, Some, None, refl, sym, ap, subst, ◌∙◌, arith, set, get_or}
 use mathlib.Core.Bool.{true≢false}
 use Rattle.std.specs.List.{insert, list_any}
-use Rattle.rt_links.proofs.Reached.{same_some}
+use Rattle.rt_nodes.proofs.Reached.{same_some}
 use Rattle.std.specs.Option.{option_map}
 use Rattle.rt_tree.specs.PathTree.{Path}
 use Rattle.rt_query.specs.Queries.{Query, is_filtered}

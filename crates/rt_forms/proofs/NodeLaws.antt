@@ -6,19 +6,19 @@ use Rattle.std.proofs.lemmas.Bool.{eqb-true, eq-eqb}
 use Rattle.slab.specs.Slab.{get, slab_len, Updates}
 use Rattle.rt_tree.specs.PathTree.{Key, Path}
 use Rattle.rt_query.specs.Queries.{Query}
-use Rattle.rt_links.specs.Forest.{bare, node, times, IsRow, row_at}
-use Rattle.rt_links.specs.Nodes.{Inserted}
-use Rattle.rt_links.specs.Walks.{spot_in, index_in}
-use Rattle.rt_links.specs.Changes.{Same, Changed, Grown, InRow, below_of, linked_in, with_below, with_content}
-use Rattle.rt_links.specs.declared.slot.Slot.{Slot}
-use Rattle.rt_links.specs.declared.row.Spot.TheVariants.{Here, Gap}
-use Rattle.rt_links.proofs.Reached.{same_some, row_at_is, row_at-none}
-use Rattle.rt_links.proofs.Paths.{here, index_spot, found_in_row, Found, find_found}
-use Rattle.rt_links.proofs.Felling.{one_of}
-use Rattle.rt_links.proofs.Taking.{below_is, below_row, below_once, times_without}
-use Rattle.rt_links.proofs.Replacing.{with_row, with_changed}
-use Rattle.rt_links.proofs.Planting.{planted_row, planted_changed}
-use Rattle.rt_links.proofs.Growing.{grown_none, one_grown, one_is, same_changed}
+use Rattle.rt_nodes.specs.Forest.{bare, node, times, IsRow, row_at}
+use Rattle.rt_nodes.specs.Nodes.{Inserted}
+use Rattle.rt_nodes.specs.Walks.{spot_in, index_in}
+use Rattle.rt_nodes.specs.Changes.{Same, Changed, Grown, InRow, below_of, linked_in, with_below, with_content}
+use Rattle.rt_nodes.specs.declared.slot.Slot.{Slot}
+use Rattle.rt_nodes.specs.declared.row.Spot.TheVariants.{Here, Gap}
+use Rattle.rt_nodes.proofs.Reached.{same_some, row_at_is, row_at-none}
+use Rattle.rt_nodes.proofs.Paths.{here, index_spot, found_in_row, Found, find_found}
+use Rattle.rt_nodes.proofs.Felling.{one_of}
+use Rattle.rt_nodes.proofs.Taking.{below_is, below_row, below_once, times_without}
+use Rattle.rt_nodes.proofs.Replacing.{with_row, with_changed}
+use Rattle.rt_nodes.proofs.Planting.{planted_row, planted_changed}
+use Rattle.rt_nodes.proofs.Growing.{grown_none, one_grown, one_is, same_changed}
 use Rattle.rt_forms.specs.inside.Trees.{Standing, Trees, Nodes, seen_in, seen, total, child_in, IsStanding, Good, Gained, Adds, AddsIn, Made, IsAdded, empty, passed, Gains, MayPass, Passes}
 use Rattle.rt_forms.proofs.RowLaws.{child_found, good_child, count_child}
 use Rattle.rt_forms.proofs.AddLaws.{adds_here, adds_below, adds_planted, adds_with_below}

@@ -12,14 +12,14 @@ use Rattle.slab.specs.Slab.{get}
 use Rattle.rt_tree.specs.PathTree.{Key, Path, key_eq, key_eq-is, key_eq-same, key_eq-symm}
 use Rattle.rt_order.specs.KeyOrder.{key_cmp}
 use Rattle.rt_order.specs.laws.KeyOrder.{key_cmp_total, key_cmp-IsAntisymmetric}
-use Rattle.rt_links.specs.Forest.{bare, node, first, times, AllAfter, Sound, IsRow, row_at}
-use Rattle.rt_links.specs.Walks.{spot_in, index_in}
-use Rattle.rt_links.specs.Changes.{with_below, planted}
-use Rattle.rt_links.specs.declared.slot.Slot.{Slot}
-use Rattle.rt_links.specs.declared.row.Spot.TheVariants.{Here, Gap}
-use Rattle.rt_links.proofs.Reached.{same_some, row_at_is, below_row, behind_row}
-use Rattle.rt_links.proofs.Joining.{slots_same}
-use Rattle.rt_links.proofs.Paths.{found_in_row, other_number}
+use Rattle.rt_nodes.specs.Forest.{bare, node, first, times, AllAfter, Sound, IsRow, row_at}
+use Rattle.rt_nodes.specs.Walks.{spot_in, index_in}
+use Rattle.rt_nodes.specs.Changes.{with_below, planted}
+use Rattle.rt_nodes.specs.declared.slot.Slot.{Slot}
+use Rattle.rt_nodes.specs.declared.row.Spot.TheVariants.{Here, Gap}
+use Rattle.rt_nodes.proofs.Reached.{same_some, row_at_is, below_row, behind_row}
+use Rattle.rt_nodes.proofs.Joining.{slots_same}
+use Rattle.rt_nodes.proofs.Paths.{found_in_row, other_number}
 use Rattle.rt_forms.specs.inside.Trees.{Standing, Trees, Nodes, child_in, total, IsStanding, Good}
 
 -- the test of either order tells equal keys

@@ -9,11 +9,11 @@ use Rattle.rt_tree.specs.PathTree.{Key, Path, key_eq, key_eq-is, key_eq-symm}
 use Rattle.rt_query.specs.Queries.{Query}
 use Rattle.rt_order.specs.KeyOrder.{key_cmp}
 use Rattle.rt_order.specs.laws.KeyOrder.{key_cmp-IsAntisymmetric}
-use Rattle.rt_links.specs.Forest.{bare, node, times, AllAfter, Sound}
-use Rattle.rt_links.specs.Walks.{index_in}
-use Rattle.rt_links.specs.Changes.{InRow, without, with_below}
-use Rattle.rt_links.proofs.Paths.{found_in_row, other_number}
-use Rattle.rt_links.proofs.Taking.{later_of}
+use Rattle.rt_nodes.specs.Forest.{bare, node, times, AllAfter, Sound}
+use Rattle.rt_nodes.specs.Walks.{index_in}
+use Rattle.rt_nodes.specs.Changes.{InRow, without, with_below}
+use Rattle.rt_nodes.proofs.Paths.{found_in_row, other_number}
+use Rattle.rt_nodes.proofs.Taking.{later_of}
 use Rattle.rt_forms.specs.Numbers.{without_number}
 use Rattle.rt_forms.specs.inside.Trees.{Standing, Trees, AreAt, own, held, seen, seen_in, child_in, total, IsStanding, Good, same_path, alike, Lost, Takes, TakesIn, passed, pruned}
 use Rattle.rt_forms.proofs.RowLaws.{Child, differs, equals, past, child_with_below, total_with_below, good_with_below, good_child, count_child}

@@ -7,7 +7,7 @@ use Rattle.rt_tree.specs.PathTree.{Key, Path, key_eq, key_eq-is, key_eq-same}
 use Rattle.rt_query.specs.Queries.{Query, plain, is_filtered}
 use Rattle.rt_query.specs.QueryEq.{query_eq}
 use Rattle.rt_query.specs.Supply.{form}
-use Rattle.rt_links.specs.Forest.{bare, node, Sound}
+use Rattle.rt_nodes.specs.Forest.{bare, node, Sound}
 use Rattle.rt_forms.specs.inside.Trees.{Standing, Trees, AreAt, among, own, seen, seen_in, child_in, IsStanding, Good, all_filtered, all_own, all_in, all_at}
 use Rattle.rt_forms.proofs.RowLaws.{Child, good_child}
 use Rattle.rt_forms.proofs.ListLaws.{Entries, own_eq, same_eq}

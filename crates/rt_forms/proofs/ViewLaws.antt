@@ -5,14 +5,14 @@ use Rattle.std.specs.Option.{option_map_or}
 use Rattle.slab.specs.Slab.{get, slab_len}
 use Rattle.rt_tree.specs.PathTree.{Key, Path}
 use Rattle.rt_query.specs.Queries.{Query}
-use Rattle.rt_links.specs.Forest.{one_if, size, times, IsRow, row_at}
-use Rattle.rt_links.specs.Walks.{index_in, place_in}
-use Rattle.rt_links.specs.Changes.{Changed, Same}
-use Rattle.rt_links.specs.declared.slot.Slot.{Slot}
-use Rattle.rt_links.proofs.Reached.{row_at_is, IsAt}
-use Rattle.rt_links.proofs.Paths.{find_found, find_lacks}
-use Rattle.rt_links.proofs.Felling.{row_kept}
-use Rattle.rt_links.proofs.Growing.{at_most_one, once_after, row_at_same, same_changed}
+use Rattle.rt_nodes.specs.Forest.{one_if, size, times, IsRow, row_at}
+use Rattle.rt_nodes.specs.Walks.{index_in, place_in}
+use Rattle.rt_nodes.specs.Changes.{Changed, Same}
+use Rattle.rt_nodes.specs.declared.slot.Slot.{Slot}
+use Rattle.rt_nodes.proofs.Reached.{row_at_is, IsAt}
+use Rattle.rt_nodes.proofs.Paths.{find_found, find_lacks}
+use Rattle.rt_nodes.proofs.Felling.{row_kept}
+use Rattle.rt_nodes.proofs.Growing.{at_most_one, once_after, row_at_same, same_changed}
 use Rattle.rt_forms.specs.Numbers.{with_number}
 use Rattle.rt_forms.specs.Forms.{Forms, numbers, share_form, IsAsBefore}
 use Rattle.rt_forms.specs.inside.Trees.{Standing, Trees, Nodes, own, seen, seen_in, IsStanding, Good, Gained, Adds, IsAdded, passed}

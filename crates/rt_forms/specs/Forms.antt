@@ -6,7 +6,7 @@ use Rattle.rt_tree.specs.Assignments.{is_at_or_above}
 use Rattle.rt_query.specs.Queries.{Query, is_filtered}
 use Rattle.rt_query.specs.QueryEq.{query_eq}
 use Rattle.rt_query.specs.Supply.{form}
-use Rattle.rt_links.specs.Forest.{row_at}
+use Rattle.rt_nodes.specs.Forest.{row_at}
 use Rattle.rt_forms.specs.inside.Trees.{Standing, Nodes, seen}
 
 -- a tree of forms: what is registered at the root, the nodes below it, and the first of its children.

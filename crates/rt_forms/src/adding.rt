@@ -4,14 +4,14 @@ ghost use Rattle.std.specs.List.{list_any};
 ghost use Rattle.std.specs.Option.{option_map};
 ghost use Rattle.slab.specs.Slab.{get, slab_len};
 ghost use Rattle.rt_tree.specs.PathTree.{Path};
-ghost use Rattle.rt_links.specs.Forest.{IsRow, row_at, times};
-ghost use Rattle.rt_links.specs.Changes.{Same, Told};
+ghost use Rattle.rt_nodes.specs.Forest.{IsRow, row_at, times};
+ghost use Rattle.rt_nodes.specs.Changes.{Same, Told};
 ghost use Rattle.rt_forms.specs.inside.Trees.{seen_in, total, Good, IsAdded, HasRoomAt, Gains};
 ghost use Rattle.rt_forms.specs.inside.Trees.{MayPass, Passes};
 
 use crate::growing::grow;
 use crate::standing::Standing;
-use rt_links::{Linked, Siblings, Spot};
+use rt_nodes::{Linked, Siblings, Spot};
 use rt_query::Query;
 use rt_tree::Key;
 use std::alloc::{AllocError, Global};

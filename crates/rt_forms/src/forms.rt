@@ -4,7 +4,7 @@ ghost use Rattle.std.specs.Prelude.{◌++◌, OnOk, OnErr, IfOk, IfSome};
 ghost use Rattle.std.specs.List.{list_any};
 ghost use Rattle.std.specs.Option.{option_copied, option_map_or};
 ghost use Rattle.rt_query.specs.Queries.{Query as QueryValue, plain};
-ghost use Rattle.rt_links.specs.Forest.{row_at};
+ghost use Rattle.rt_nodes.specs.Forest.{row_at};
 ghost use Rattle.rt_forms.specs.Numbers.{with_number, without_number};
 ghost use Rattle.rt_tree.specs.Assignments.{is_at_or_above};
 ghost use Rattle.rt_forms.specs.Forms.{numbers, count, share_form, IsAsBefore, IsHeardUnder};
@@ -17,7 +17,7 @@ use crate::adding::add_row;
 use crate::gathering::gather_at;
 use crate::removing::remove_row;
 use crate::standing::{Filtered, Standing};
-use rt_links::{Linked, Siblings};
+use rt_nodes::{Linked, Siblings};
 use rt_query::Query;
 use rt_tree::Key;
 use std::alloc::{AllocError, Global};
@@ -46,7 +46,7 @@ impl Drop for Forms {
 impl Model for Forms {
     ghost use Rattle.std.specs.Coded.{codes};
     ghost use Rattle.slab.specs.Slab.{slab_code};
-    ghost use Rattle.rt_links.specs.Nodes.{slot_code};
+    ghost use Rattle.rt_nodes.specs.Nodes.{slot_code};
     ghost use Rattle.rt_forms.specs.Forms.{Forms};
 
     ghost Value = { Forms };

@@ -1,12 +1,12 @@
 // The numbers of all listeners at and under a path.
 ghost use Rattle.std.specs.Prelude.{◌≡◌, ◌++◌, Some, OnOk};
 ghost use Rattle.slab.specs.Slab.{get};
-ghost use Rattle.rt_links.specs.Forest.{row_at};
-ghost use Rattle.rt_links.specs.Walks.{IsPlace};
+ghost use Rattle.rt_nodes.specs.Forest.{row_at};
+ghost use Rattle.rt_nodes.specs.Walks.{IsPlace};
 ghost use Rattle.rt_forms.specs.inside.Trees.{all_own, all_in};
 
 use crate::standing::Standing;
-use rt_links::Linked;
+use rt_nodes::Linked;
 use std::alloc::AllocError;
 
 // Adds the numbers of a row, with those of all below it.

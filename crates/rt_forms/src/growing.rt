@@ -2,12 +2,12 @@
 ghost use Rattle.std.specs.Prelude.{◌≡◌, ◌≢◌, ℕ, Some, IfOk, OnErr};
 ghost use Rattle.std.specs.Option.{option_map};
 ghost use Rattle.slab.specs.Slab.{get, slab_len};
-ghost use Rattle.rt_links.specs.Forest.{row_at};
-ghost use Rattle.rt_links.specs.Changes.{Grown, Same};
+ghost use Rattle.rt_nodes.specs.Forest.{row_at};
+ghost use Rattle.rt_nodes.specs.Changes.{Grown, Same};
 ghost use Rattle.rt_forms.specs.inside.Trees.{Made};
 
 use crate::standing::Standing;
-use rt_links::Linked;
+use rt_nodes::Linked;
 use rt_query::Query;
 use rt_tree::Key;
 use std::alloc::{AllocError, Global};

@@ -2,13 +2,13 @@
 ghost use Rattle.std.specs.Prelude.{◌≡◌, ◌≤◌, ◌<◌, ◌∷◌, ◌++◌, ◌==◌, ℕ, Option, None, true};
 ghost use Rattle.std.specs.List.{list_any};
 ghost use Rattle.rt_tree.specs.PathTree.{Path};
-ghost use Rattle.rt_links.specs.Forest.{IsRow, row_at, times};
-ghost use Rattle.rt_links.specs.Changes.{Changed, InRow, IsHead, Told};
+ghost use Rattle.rt_nodes.specs.Forest.{IsRow, row_at, times};
+ghost use Rattle.rt_nodes.specs.Changes.{Changed, InRow, IsHead, Told};
 ghost use Rattle.rt_forms.specs.inside.Trees.{seen_in, Good, IsTaken, pruned};
 ghost use Rattle.rt_forms.specs.inside.Trees.{HasAt, Loses, MayLeave, Leaves};
 
 use crate::standing::Standing;
-use rt_links::{Linked, Siblings, Spot};
+use rt_nodes::{Linked, Siblings, Spot};
 use rt_query::Query;
 use rt_tree::Key;
 use std::alloc::Global;

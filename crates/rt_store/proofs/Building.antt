@@ -7,10 +7,10 @@ use Rattle.rt_tree.specs.PathTree.{Key, Path, PathTree, key_eq, key_eq-is, key_e
 use Rattle.rt_tree.specs.Allowed.{IsAllowed, may_stand_below, allowed-sub}
 use Rattle.rt_tree.proofs.Trees.{sub-root, sub-object}
 use Rattle.rt_store.specs.Rows.{Row}
-use Rattle.rt_links.specs.Forest.{bare, node, size, AllAfter, row_at}
+use Rattle.rt_nodes.specs.Forest.{bare, node, size, AllAfter, row_at}
 use Rattle.rt_store.specs.inside.Entries.{entries, tree_with, Filled, Nodes, Trees, NodeSlot}
-use Rattle.rt_links.specs.Walks.{IsPlace}
-use Rattle.rt_links.proofs.Reached.{IsAt, at_place, row_at-none, not_nowhere}
+use Rattle.rt_nodes.specs.Walks.{IsPlace}
+use Rattle.rt_nodes.proofs.Reached.{IsAt, at_place, row_at-none, not_nowhere}
 use Rattle.rt_store.proofs.Orders.{full_of}
 use Rattle.rt_store.proofs.Paths.{differs}
 

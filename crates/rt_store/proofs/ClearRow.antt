@@ -11,20 +11,20 @@ use Rattle.rt_tree.specs.PathTree.{Key, Path, PathTree, null, leaf_at-null, put,
 use Rattle.rt_tree.specs.Allowed.{IsAllowed, allowed-null, allowed-put}
 use Rattle.rt_tree.proofs.Trees.{put-root}
 use Rattle.rt_order.specs.KeyOrder.{key_cmp}
-use Rattle.rt_links.specs.Forest.{bare, node, first, times, Links, IsRow, row_at}
+use Rattle.rt_nodes.specs.Forest.{bare, node, first, times, Links, IsRow, row_at}
 use Rattle.rt_store.specs.inside.Entries.{entries, IsFull, Filled, Nodes, Trees, NodeSlot}
-use Rattle.rt_links.specs.Walks.{IsPlace, index_in}
-use Rattle.rt_links.specs.Changes.{InRow, IsHead, Felled, Changed, without, below_of, with_below, with_content}
+use Rattle.rt_nodes.specs.Walks.{IsPlace, index_in}
+use Rattle.rt_nodes.specs.Changes.{InRow, IsHead, Felled, Changed, without, below_of, with_below, with_content}
 use Rattle.rt_store.specs.inside.Changes.{is_bare, cleared}
 use Rattle.rt_store.specs.Stored.{Stored}
 use Rattle.rt_store.specs.inside.StoreView.{stored, IsStore}
 use Rattle.rt_store.specs.declared.store.Store.TheInside.{Inside}
-use Rattle.rt_links.proofs.Reached.{same_some, row_at-none}
-use Rattle.rt_links.proofs.Joining.{slots_same}
-use Rattle.rt_links.proofs.Paths.{found_in_row, other_number}
-use Rattle.rt_links.proofs.Growing.{felled_changed, same_changed}
-use Rattle.rt_links.proofs.Taking.{below_is, below_row, below_once, not_there}
-use Rattle.rt_links.proofs.Replacing.{with_row, with_changed}
+use Rattle.rt_nodes.proofs.Reached.{same_some, row_at-none}
+use Rattle.rt_nodes.proofs.Joining.{slots_same}
+use Rattle.rt_nodes.proofs.Paths.{found_in_row, other_number}
+use Rattle.rt_nodes.proofs.Growing.{felled_changed, same_changed}
+use Rattle.rt_nodes.proofs.Taking.{below_is, below_row, below_once, not_there}
+use Rattle.rt_nodes.proofs.Replacing.{with_row, with_changed}
 use Rattle.rt_store.proofs.Clearing.{tree_cleared, filled_cleared}
 use Rattle.rt_store.proofs.Storing.{store_after, tree_after}
 

@@ -9,7 +9,7 @@ use Rattle.rt_tree.specs.PathTree.{Key, Path, key_eq, key_eq-is, key_eq-symm, nu
 use Rattle.rt_tree.proofs.Trees.{put-root, put-object, put-null-null, put-of_leaf-null, non_null-null, some_non_null}
 use Rattle.rt_order.specs.KeyOrder.{key_cmp}
 use Rattle.rt_order.specs.laws.KeyOrder.{key_cmp-IsAntisymmetric}
-use Rattle.rt_links.specs.Forest.{bare, node, AllAfter, Sound}
+use Rattle.rt_nodes.specs.Forest.{bare, node, AllAfter, Sound}
 use Rattle.rt_store.specs.inside.Entries.{entries, tree_with, IsFull, Filled, Trees}
 use Rattle.rt_store.specs.inside.Changes.{is_bare, cleared}
 use Rattle.rt_store.proofs.Orders.{full_tree}

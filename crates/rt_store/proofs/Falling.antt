@@ -21,7 +21,7 @@ use Rattle.rt_tree.proofs.Trees.{leaf_at-found}
 use Rattle.rt_order.specs.KeyOrder.{bytes_cmp, key_cmp}
 use Rattle.rt_order.specs.laws.KeyOrder.{key_cmp_total, key_cmp-IsAntisymmetric}
 use Rattle.rt_store.specs.Rows.{Row, in_key_order}
-use Rattle.rt_links.specs.Forest.{bare, node, AllAfter}
+use Rattle.rt_nodes.specs.Forest.{bare, node, AllAfter}
 use Rattle.rt_store.specs.inside.Entries.{entries, Trees}
 use Rattle.rt_store.specs.inside.Growing.{seen}
 use Rattle.rt_store.specs.declared.grow.Child.{Child}

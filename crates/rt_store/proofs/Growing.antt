@@ -13,14 +13,14 @@ use Rattle.rt_tree.specs.PathTree.{Key, Path, PathTree, first as both_first, key
 use Rattle.rt_tree.specs.Children.{children_of, child_of-children_of}
 use Rattle.rt_tree.proofs.Trees.{put-root, put-object, is_null-put, some_non_null, full_of_non_null}
 use Rattle.rt_order.specs.KeyOrder.{key_cmp}
-use Rattle.rt_links.specs.Forest.{bare, node, AllAfter, IsRow, row_at}
-use Rattle.rt_links.specs.Nodes.{Inserted}
-use Rattle.rt_links.specs.Walks.{spot_in}
-use Rattle.rt_links.specs.Changes.{Same, Changed, Grown, with_content, linked_in, planted}
-use Rattle.rt_links.specs.declared.row.Spot.TheVariants.{Gap}
-use Rattle.rt_links.proofs.Reached.{row_at_is, row_at-none}
-use Rattle.rt_links.proofs.Planting.{spot_in-front, planted-front, planted_row, planted_changed}
-use Rattle.rt_links.proofs.Growing.{grown_none, changed_then, one_grown, one_is}
+use Rattle.rt_nodes.specs.Forest.{bare, node, AllAfter, IsRow, row_at}
+use Rattle.rt_nodes.specs.Nodes.{Inserted}
+use Rattle.rt_nodes.specs.Walks.{spot_in}
+use Rattle.rt_nodes.specs.Changes.{Same, Changed, Grown, with_content, linked_in, planted}
+use Rattle.rt_nodes.specs.declared.row.Spot.TheVariants.{Gap}
+use Rattle.rt_nodes.proofs.Reached.{row_at_is, row_at-none}
+use Rattle.rt_nodes.proofs.Planting.{spot_in-front, planted-front, planted_row, planted_changed}
+use Rattle.rt_nodes.proofs.Growing.{grown_none, changed_then, one_grown, one_is}
 use Rattle.rt_store.specs.Rows.{Row, in_key_order}
 use Rattle.rt_store.specs.inside.Growing.{seen}
 use Rattle.rt_store.specs.inside.Entries.{entries, tree_with, IsFull, Filled, Nodes, Trees}

@@ -16,7 +16,7 @@ use Rattle.rt_order.specs.KeyOrder.{key_cmp}
 use Rattle.rt_order.specs.laws.KeyOrder.{key_cmp_total, key_cmp-IsAntisymmetric}
 use Rattle.rt_store.specs.Rows.{Row, in_key_order, row, root_row}
 use Rattle.rt_store.specs.Stored.{first_tree}
-use Rattle.rt_links.specs.Forest.{bare, node, first, AllAfter, Sound}
+use Rattle.rt_nodes.specs.Forest.{bare, node, first, AllAfter, Sound}
 use Rattle.rt_store.specs.inside.Entries.{tree_with, entries, IsFull, Filled, Trees}
 
 -- the test of either order tells equal keys

@@ -17,11 +17,11 @@ use Rattle.rt_store.specs.Rows.{Row, from_key, from_path}
 use Rattle.rt_store.specs.Stored.{Stored, onward, some_row}
 use Rattle.rt_store.specs.inside.StoreView.{stored, IsStore}
 use Rattle.rt_store.specs.declared.store.Store.TheInside.{Inside}
-use Rattle.rt_links.specs.Forest.{bare, node, first, AllAfter, Sound, IsRow, row_at}
-use Rattle.rt_links.specs.Walks.{IsPlace, index_in, place_in}
-use Rattle.rt_links.proofs.Reached.{same_some, IsAt, row_at-none, row_at_is, below_row, behind_row}
-use Rattle.rt_links.proofs.Joining.{slots_same}
-use Rattle.rt_links.proofs.Paths.{find_found as find_node, find_lacks as find_none}
+use Rattle.rt_nodes.specs.Forest.{bare, node, first, AllAfter, Sound, IsRow, row_at}
+use Rattle.rt_nodes.specs.Walks.{IsPlace, index_in, place_in}
+use Rattle.rt_nodes.proofs.Reached.{same_some, IsAt, row_at-none, row_at_is, below_row, behind_row}
+use Rattle.rt_nodes.proofs.Joining.{slots_same}
+use Rattle.rt_nodes.proofs.Paths.{find_found as find_node, find_lacks as find_none}
 use Rattle.rt_store.specs.inside.Entries.{entries, tree_with, IsFull, Filled, Nodes, Trees, NodeSlot}
 use Rattle.rt_store.proofs.Orders.{tests_alike, row-tree_with, top_of_full, full_tree, root_row-full, root_row-null}
 use Rattle.rt_store.proofs.Places.{row-null, onward_is}

@@ -7,10 +7,10 @@ use Rattle.slab.specs.Slab.{get}
 use Rattle.rt_tree.specs.Leaf.{LeafValue}
 use Rattle.rt_tree.specs.PathTree.{null, is_null, is_null-null, leaf_of, leaf_at-null, leaf_at-of_leaf, leaf_at-object-root, object}
 use Rattle.rt_tree.proofs.Trees.{is_null-of_leaf}
-use Rattle.rt_links.specs.Forest.{bare, node, one_if, first, times, IsRow, row_at}
-use Rattle.rt_links.specs.Walks.{IsPlace}
-use Rattle.rt_links.proofs.Reached.{IsAt, at_place, place_in_store, row_at-none, row_at-nowhere, row_at_is, below_row, behind_row, either}
-use Rattle.rt_links.proofs.Joining.{slots_same}
+use Rattle.rt_nodes.specs.Forest.{bare, node, one_if, first, times, IsRow, row_at}
+use Rattle.rt_nodes.specs.Walks.{IsPlace}
+use Rattle.rt_nodes.proofs.Reached.{IsAt, at_place, place_in_store, row_at-none, row_at-nowhere, row_at_is, below_row, behind_row, either}
+use Rattle.rt_nodes.proofs.Joining.{slots_same}
 use Rattle.rt_store.specs.Rows.{Row, row}
 use Rattle.rt_store.specs.Stored.{Stored, onward, some_row, behind, first_tree, first_key, tree_at, key_at}
 use Rattle.rt_store.specs.inside.Entries.{entries, tree_with, IsFull, Filled, Nodes, Trees, NodeSlot}

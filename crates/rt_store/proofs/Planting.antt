@@ -5,10 +5,10 @@ use Rattle.std.specs.FinMap.Entries.{by_order}
 use Rattle.rt_tree.specs.Leaf.{LeafValue}
 use Rattle.rt_tree.specs.PathTree.{Key, PathTree, key_eq, key_eq-is, key_eq-symm, child_of}
 use Rattle.rt_order.specs.KeyOrder.{key_cmp}
-use Rattle.rt_links.specs.Forest.{bare, node, first, Sound}
-use Rattle.rt_links.specs.Walks.{spot_in}
-use Rattle.rt_links.specs.Changes.{planted}
-use Rattle.rt_links.specs.declared.row.Spot.TheVariants.{Here, Gap}
+use Rattle.rt_nodes.specs.Forest.{bare, node, first, Sound}
+use Rattle.rt_nodes.specs.Walks.{spot_in}
+use Rattle.rt_nodes.specs.Changes.{planted}
+use Rattle.rt_nodes.specs.declared.row.Spot.TheVariants.{Here, Gap}
 use Rattle.rt_store.specs.inside.Entries.{entries, tree_with, Filled, IsFull, Trees}
 use Rattle.rt_store.proofs.Paths.{differs}
 

@@ -13,17 +13,17 @@ use Rattle.rt_tree.specs.PathTree.{levels, Key, Path, PathTree, key_eq, key_eq-i
 use Rattle.rt_tree.proofs.Trees.{put-object, put-of_leaf, is_null-put, some_non_null}
 use Rattle.rt_order.specs.KeyOrder.{key_cmp}
 use Rattle.rt_order.specs.laws.KeyOrder.{key_cmp-IsAntisymmetric}
-use Rattle.rt_links.specs.Forest.{bare, node, first, times, IsRow, row_at}
-use Rattle.rt_links.specs.Walks.{spot_in, index_in}
-use Rattle.rt_links.specs.Changes.{InRow, with_below, with_content, linked_in, Felled, Changed, Same, Grown}
-use Rattle.rt_links.specs.declared.row.Spot.TheVariants.{Here, Gap}
-use Rattle.rt_links.proofs.Reached.{row_at_is, row_at-none}
-use Rattle.rt_links.proofs.Paths.{here, index_spot, found_in_row, other_number}
-use Rattle.rt_links.proofs.Joining.{slots_same}
-use Rattle.rt_links.proofs.Taking.{below_is, below_row, below_once}
-use Rattle.rt_links.proofs.Replacing.{with_row, with_changed}
-use Rattle.rt_links.proofs.Planting.{planted_row, planted_changed}
-use Rattle.rt_links.proofs.Growing.{swapped_row, swapped}
+use Rattle.rt_nodes.specs.Forest.{bare, node, first, times, IsRow, row_at}
+use Rattle.rt_nodes.specs.Walks.{spot_in, index_in}
+use Rattle.rt_nodes.specs.Changes.{InRow, with_below, with_content, linked_in, Felled, Changed, Same, Grown}
+use Rattle.rt_nodes.specs.declared.row.Spot.TheVariants.{Here, Gap}
+use Rattle.rt_nodes.proofs.Reached.{row_at_is, row_at-none}
+use Rattle.rt_nodes.proofs.Paths.{here, index_spot, found_in_row, other_number}
+use Rattle.rt_nodes.proofs.Joining.{slots_same}
+use Rattle.rt_nodes.proofs.Taking.{below_is, below_row, below_once}
+use Rattle.rt_nodes.proofs.Replacing.{with_row, with_changed}
+use Rattle.rt_nodes.proofs.Planting.{planted_row, planted_changed}
+use Rattle.rt_nodes.proofs.Growing.{swapped_row, swapped}
 use Rattle.rt_store.specs.Stored.{Stored, IsAsBefore}
 use Rattle.rt_store.specs.inside.Entries.{entries, tree_with, IsFull, Filled, Nodes, Trees, NodeSlot}
 use Rattle.rt_store.specs.inside.Changes.{IsPut, IsGrown}

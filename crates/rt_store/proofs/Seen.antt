@@ -2,10 +2,10 @@
 use Rattle.std.proofs.Common.{◌≡◌, ◌≤◌, ◌<◌, ◌⊎◌, inl, inr, ℕ, zero, suc, ◌+◌, List, [], ◌∷◌, length, Option, Some, None, refl, sym, ap, ◌∙◌, arith}
 use Rattle.std.proofs.lemmas.List.{get_or_past}
 use Rattle.rt_store.specs.Stored.{nth}
-use Rattle.rt_links.specs.Forest.{row_at}
+use Rattle.rt_nodes.specs.Forest.{row_at}
 use Rattle.rt_store.specs.inside.Entries.{entries, Nodes, NodeSlot}
 use Rattle.rt_store.specs.inside.StoreView.{rows_from}
-use Rattle.rt_links.proofs.Reached.{row_at-nowhere}
+use Rattle.rt_nodes.proofs.Reached.{row_at-nowhere}
 
 nth_rows : (s : Nodes) (k : ℕ) (os : List (Option NodeSlot)) (i : ℕ) → i < length os → nth (rows_from s k os) i ≡ entries (row_at s (Some (k + i)))
 nth_rows s k [] i h = absurd (omega (arith, h))

@@ -2,11 +2,11 @@
 use Rattle.std.proofs.Common.{◌≡◌, ◌≤◌, ℕ, Option, Some, None, is_some, sym, ap, subst, ◌∙◌, arith}
 use Rattle.slab.specs.Slab.{get, slab_len}
 use Rattle.rt_tree.specs.Allowed.{IsAllowed}
-use Rattle.rt_links.specs.Forest.{one_if, size, times, IsRow, row_at}
-use Rattle.rt_links.specs.Changes.{Changed, Same}
-use Rattle.rt_links.proofs.Reached.{row_at_is}
-use Rattle.rt_links.proofs.Felling.{row_kept}
-use Rattle.rt_links.proofs.Growing.{at_most_one, once_after, row_at_same}
+use Rattle.rt_nodes.specs.Forest.{one_if, size, times, IsRow, row_at}
+use Rattle.rt_nodes.specs.Changes.{Changed, Same}
+use Rattle.rt_nodes.proofs.Reached.{row_at_is}
+use Rattle.rt_nodes.proofs.Felling.{row_kept}
+use Rattle.rt_nodes.proofs.Growing.{at_most_one, once_after, row_at_same}
 use Rattle.rt_store.specs.Rows.{root_row}
 use Rattle.rt_store.specs.Stored.{IsAsBefore, onward}
 use Rattle.rt_store.specs.inside.Entries.{entries, tree_with, Filled, Trees}

@@ -9,10 +9,10 @@ use Rattle.slab.specs.Slab.{get}
 use Rattle.rt_tree.specs.Leaf.{LeafValue}
 use Rattle.rt_tree.specs.PathTree.{Key, Path}
 use Rattle.rt_order.specs.KeyOrder.{key_cmp}
-use Rattle.rt_links.specs.Forest.{bare, node, first, row_at}
-use Rattle.rt_links.specs.Walks.{IsPlace}
+use Rattle.rt_nodes.specs.Forest.{bare, node, first, row_at}
+use Rattle.rt_nodes.specs.Walks.{IsPlace}
 use Rattle.rt_store.specs.inside.Changes.{is_bare, cleared}
-use Rattle.rt_links.proofs.Reached.{IsAt, at_place, row_at-none}
+use Rattle.rt_nodes.proofs.Reached.{IsAt, at_place, row_at-none}
 use Rattle.rt_store.specs.inside.Entries.{Nodes, Trees, NodeSlot}
 
 pub vanish_none : (s : Nodes) (o : Option ℕ) (k : Key) (p : Path) → o ≡ None → is_bare (cleared k p (row_at s o)) ≡ true

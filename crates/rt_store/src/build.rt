@@ -2,12 +2,12 @@
 ghost use Rattle.std.specs.Prelude.{◌≡◌, IfOk, OnOk, List, ℕ, Some, if◌then◌else◌};
 ghost use Rattle.rt_tree.specs.PathTree.{key_eq, child_of};
 ghost use Rattle.rt_tree.specs.Allowed.{IsAllowed};
-ghost use Rattle.rt_links.specs.Forest.{row_at};
+ghost use Rattle.rt_nodes.specs.Forest.{row_at};
 ghost use Rattle.rt_store.specs.inside.Entries.{entries, tree_with, Filled};
-ghost use Rattle.rt_links.specs.Walks.{IsPlace};
+ghost use Rattle.rt_nodes.specs.Walks.{IsPlace};
 
-use rt_links::Linked;
 use rt_map::OrdMap;
+use rt_nodes::Linked;
 use rt_tree::{Key, Leaf, Tree};
 use std::alloc::{AllocError, Global};
 

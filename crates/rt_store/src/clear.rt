@@ -1,12 +1,12 @@
 // What stands at a path is taken out, with each node above it that is left without children.
 ghost use Rattle.std.specs.Prelude.{◌≡◌, ◌≤◌, ℕ, Option, None};
 ghost use Rattle.rt_store.specs.inside.Entries.{Filled};
-ghost use Rattle.rt_links.specs.Forest.{IsRow, row_at, times};
-ghost use Rattle.rt_links.specs.Walks.{IsPlace};
-ghost use Rattle.rt_links.specs.Changes.{Changed, Told};
+ghost use Rattle.rt_nodes.specs.Forest.{IsRow, row_at, times};
+ghost use Rattle.rt_nodes.specs.Walks.{IsPlace};
+ghost use Rattle.rt_nodes.specs.Changes.{Changed, Told};
 ghost use Rattle.rt_store.specs.inside.Changes.{is_bare, cleared};
 
-use rt_links::{Linked, Siblings};
+use rt_nodes::{Linked, Siblings};
 use rt_order::key_cmp;
 use rt_tree::{Key, Leaf};
 

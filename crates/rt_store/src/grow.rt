@@ -3,14 +3,14 @@ ghost use Rattle.std.specs.Prelude.{◌≡◌, ◌∷◌, [], false, IfOk, OnErr
 ghost use Rattle.rt_map.specs.Maps.{IsOrdered};
 ghost use Rattle.rt_tree.specs.PathTree.{key_cmp, null, is_null, put, AllFull};
 ghost use Rattle.rt_store.specs.Rows.{in_key_order};
-ghost use Rattle.rt_links.specs.Forest.{row_at};
+ghost use Rattle.rt_nodes.specs.Forest.{row_at};
 ghost use Rattle.rt_store.specs.inside.Entries.{entries, tree_with, IsFull};
-ghost use Rattle.rt_links.specs.Changes.{Same};
+ghost use Rattle.rt_nodes.specs.Changes.{Same};
 ghost use Rattle.rt_store.specs.inside.Changes.{IsGrown};
 ghost use Rattle.rt_store.specs.inside.Growing.{seen};
 
-use rt_links::Linked;
 use rt_map::OrdMap;
+use rt_nodes::Linked;
 use rt_order::key_cmp;
 use rt_tree::{Key, Leaf, Tree};
 use std::alloc::{AllocError, Global};

@@ -2,12 +2,12 @@
 ghost use Rattle.std.specs.Prelude.{◌≡◌, ◌≤◌, ℕ, false, None, IfOk, OnErr};
 ghost use Rattle.rt_tree.specs.PathTree.{is_null};
 ghost use Rattle.rt_store.specs.inside.Entries.{Filled};
-ghost use Rattle.rt_links.specs.Forest.{IsRow, row_at, times};
+ghost use Rattle.rt_nodes.specs.Forest.{IsRow, row_at, times};
 ghost use Rattle.rt_store.specs.inside.Changes.{IsPut};
-ghost use Rattle.rt_links.specs.Changes.{Same, Told};
+ghost use Rattle.rt_nodes.specs.Changes.{Same, Told};
 
 use crate::grow::{content, grow};
-use rt_links::{Linked, Siblings, Spot};
+use rt_nodes::{Linked, Siblings, Spot};
 use rt_tree::{Key, Leaf, Tree};
 use std::alloc::{AllocError, Global};
 

@@ -13,7 +13,7 @@ use crate::error::StoreError;
 use crate::grow::content;
 use crate::node::Node;
 use crate::put::put_row;
-use rt_links::{Linked, Siblings};
+use rt_nodes::{Linked, Siblings};
 use rt_tree::{Key, Leaf, MAX_LEVELS, Path, Tree};
 use std::alloc::{AllocError, Global};
 use std::marker::Model;

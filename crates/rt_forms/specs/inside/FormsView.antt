@@ -2,7 +2,7 @@
 use Rattle.std.specs.Prelude.{◌≡◌, ℕ, List, [], None, is_some}
 use Rattle.slab.specs.Slab.{get, slab_len}
 use Rattle.rt_tree.specs.PathTree.{Path}
-use Rattle.rt_links.specs.Forest.{IsRow, row_at, one_if, size, times}
+use Rattle.rt_nodes.specs.Forest.{IsRow, row_at, one_if, size, times}
 use Rattle.rt_forms.specs.Forms.{Forms}
 use Rattle.rt_forms.specs.inside.Trees.{Good, IsStanding, all_at}
 

@@ -4,8 +4,8 @@ use Rattle.std.specs.Prelude.{None}
 use Rattle.std.specs.FinMap.Entries.{by_order}
 use Rattle.rt_tree.specs.PathTree.{Key, Path, PathTree, PutsBelow}
 use Rattle.rt_order.specs.KeyOrder.{key_cmp}
-use Rattle.rt_links.specs.Forest.{bare, node, IsRow, row_at}
-use Rattle.rt_links.specs.Changes.{Changed, Grown}
+use Rattle.rt_nodes.specs.Forest.{bare, node, IsRow, row_at}
+use Rattle.rt_nodes.specs.Changes.{Changed, Grown}
 use Rattle.rt_store.specs.inside.Entries.{Nodes, Trees, entries, Filled}
 
 abbrev pub is_bare : Trees → Bool

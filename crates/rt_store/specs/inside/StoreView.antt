@@ -5,7 +5,7 @@ use Rattle.rt_tree.specs.Leaf.{LeafValue}
 use Rattle.rt_tree.specs.Allowed.{IsAllowed}
 use Rattle.rt_store.specs.Rows.{Row}
 use Rattle.rt_store.specs.Stored.{Stored}
-use Rattle.rt_links.specs.Forest.{IsRow, row_at, one_if, size, times}
+use Rattle.rt_nodes.specs.Forest.{IsRow, row_at, one_if, size, times}
 use Rattle.rt_store.specs.inside.Entries.{NodeSlot, Nodes, entries, tree_with, Filled}
 use Rattle.rt_store.specs.declared.store.Store.TheInside.{Inside}
 

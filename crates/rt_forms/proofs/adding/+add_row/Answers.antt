@@ -1,8 +1,8 @@
 use Rattle.std.proofs.Common.{rules, ◌≡◌, ◌==◌, ◌++◌, ◌∷◌, [], Some, length, sym, ap, subst, ◌∙◌, arith, refl}
 use Rattle.std.specs.List.{list_any}
 use Rattle.slab.specs.Slab.{get}
-use Rattle.rt_links.specs.Forest.{row_at}
-use Rattle.rt_links.proofs.Near.{told_below}
+use Rattle.rt_nodes.specs.Forest.{row_at}
+use Rattle.rt_nodes.proofs.Near.{told_below}
 use Rattle.rt_forms.specs.inside.Trees.{seen_in, IsAdded}
 use Rattle.rt_forms.proofs.NodeLaws.{added_new, there_at, at_row, at_once, at_numbers, at_good, at_count, at_total, added_here, may_pass, added_below}
 use Rattle.rt_forms.proofs.ViewLaws.{no_path}

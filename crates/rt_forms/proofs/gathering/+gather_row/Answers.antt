@@ -1,8 +1,8 @@
 use Rattle.std.proofs.Common.{◌≡◌, ◌≢◌, Some, None, subst, arith, rules}
 use Rattle.slab.specs.Slab.{get}
-use Rattle.rt_links.specs.Forest.{row_at}
-use Rattle.rt_links.specs.Walks.{IsPlace}
-use Rattle.rt_links.proofs.Reached.{not_nowhere}
+use Rattle.rt_nodes.specs.Forest.{row_at}
+use Rattle.rt_nodes.specs.Walks.{IsPlace}
+use Rattle.rt_nodes.proofs.Reached.{not_nowhere}
 use Rattle.rt_forms.proofs.GatherLaws.{gathering_all, under_place, under_smaller, fewer_left, gathering_next, gathered}
 use Rattle.rt_forms.proofs.gathering.+gather_row.Goals as goal
 

@@ -1,4 +1,4 @@
-use Rattle.rt_links.specs.Forest.{row_at, size}
+use Rattle.rt_nodes.specs.Forest.{row_at, size}
 use Rattle.rt_forms.proofs.GatherLaws.{Gathering}
 use Rattle.rt_forms.proofs.gathering.+gather_row.Given as goal
 

@@ -1,6 +1,6 @@
 use Rattle.std.proofs.Common.{◌++◌, ap, ◌∙◌, append_assoc}
 use Rattle.std.proofs.lemmas.Result.{on_ok_weaker}
-use Rattle.rt_links.specs.Forest.{row_at}
+use Rattle.rt_nodes.specs.Forest.{row_at}
 use Rattle.rt_forms.specs.inside.Trees.{all_own, all_in}
 use Rattle.rt_forms.proofs.gathering.gather_at.Goals as goal
 

@@ -1,9 +1,9 @@
 use Rattle.std.proofs.Common.{◌≡◌, [], Some, sym, ap, subst, ◌∙◌}
 use Rattle.std.specs.Option.{option_map}
 use Rattle.slab.specs.Slab.{get}
-use Rattle.rt_links.specs.Forest.{row_at}
-use Rattle.rt_links.specs.Changes.{with_content}
-use Rattle.rt_links.specs.Nodes.{Inserted}
+use Rattle.rt_nodes.specs.Forest.{row_at}
+use Rattle.rt_nodes.specs.Changes.{with_content}
+use Rattle.rt_nodes.specs.Nodes.{Inserted}
 use Rattle.rt_forms.specs.inside.Trees.{Made, Gained, empty, passed}
 use Rattle.rt_forms.proofs.NodeLaws.{alone_grown, alone_made, under_grown, under_made}
 use Rattle.rt_forms.proofs.ViewLaws.{no_path}

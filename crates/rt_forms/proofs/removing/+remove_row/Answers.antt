@@ -1,8 +1,8 @@
 use Rattle.std.proofs.Common.{rules, ◌≡◌, ◌==◌, ◌++◌, ◌∷◌, [], Some, length, sym, ap, subst, ◌∙◌, arith}
 use Rattle.std.specs.List.{list_any}
 use Rattle.slab.specs.Slab.{get}
-use Rattle.rt_links.specs.Forest.{row_at}
-use Rattle.rt_links.proofs.Near.{told_below}
+use Rattle.rt_nodes.specs.Forest.{row_at}
+use Rattle.rt_nodes.proofs.Near.{told_below}
 use Rattle.rt_forms.specs.inside.Trees.{seen_in, IsTaken}
 use Rattle.rt_forms.proofs.NodeLaws.{there_at, at_row, at_once, at_numbers}
 use Rattle.rt_forms.proofs.LeaveLaws.{nothing_there, leave_good, leave_some, may_leave, prune_here, taken_here, prune_below, taken_below}

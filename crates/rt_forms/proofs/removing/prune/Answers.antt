@@ -1,9 +1,9 @@
 use Rattle.std.proofs.Common.{rules, ◌≡◌, ◌≢◌, ◌<◌, Some, None, cond, sym, ap, subst, ◌∙◌}
 use Rattle.slab.specs.Slab.{get}
-use Rattle.rt_links.specs.Forest.{row_at, IsRow}
-use Rattle.rt_links.specs.Changes.{Changed, without}
-use Rattle.rt_links.proofs.Taking.{not_there}
-use Rattle.rt_links.proofs.Growing.{same_changed}
+use Rattle.rt_nodes.specs.Forest.{row_at, IsRow}
+use Rattle.rt_nodes.specs.Changes.{Changed, without}
+use Rattle.rt_nodes.proofs.Taking.{not_there}
+use Rattle.rt_nodes.proofs.Growing.{same_changed}
 use Rattle.rt_forms.proofs.LessLaws.{some_true}
 use Rattle.rt_forms.proofs.LeaveLaws.{prune_cases, none_true}
 use Rattle.rt_forms.proofs.removing.prune.Goals as goal

@@ -2,7 +2,7 @@ use Rattle.std.proofs.Common.{◌≡◌, Some, None, sym, ap, ◌∙◌, arith, 
 use Rattle.slab.specs.Slab.{get}
 use Rattle.rt_tree.specs.PathTree.{object}
 use Rattle.rt_tree.specs.Allowed.{IsAllowed}
-use Rattle.rt_links.specs.Forest.{row_at}
+use Rattle.rt_nodes.specs.Forest.{row_at}
 use Rattle.rt_store.specs.inside.Entries.{entries, tree_with}
 use Rattle.rt_store.proofs.Building.{child_place, child_filled, child_smaller, child_allowed, building_next, fewer_left, built, same_object, built_full}
 use Rattle.rt_store.proofs.build.+build.Goals as goal

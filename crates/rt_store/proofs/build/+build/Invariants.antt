@@ -1,4 +1,4 @@
-use Rattle.rt_links.specs.Forest.{row_at, size}
+use Rattle.rt_nodes.specs.Forest.{row_at, size}
 use Rattle.rt_store.proofs.Building.{Building}
 use Rattle.rt_store.proofs.build.+build.Given as goal
 

@@ -1,11 +1,11 @@
 use Rattle.std.proofs.Common.{◌≡◌, ℕ, length, Some, None, true, false, is_some, sym, ap, subst, ◌∙◌, arith, rules}
 use Rattle.slab.specs.Slab.{get}
-use Rattle.rt_links.specs.Forest.{row_at, IsRow}
-use Rattle.rt_links.specs.Changes.{Changed, without}
+use Rattle.rt_nodes.specs.Forest.{row_at, IsRow}
+use Rattle.rt_nodes.specs.Changes.{Changed, without}
 use Rattle.rt_store.specs.inside.Changes.{is_bare, cleared}
 use Rattle.rt_store.proofs.Paths.{find_found, clear_filled}
 use Rattle.rt_store.proofs.ClearRow.{clear_none, clear_none-changed, clear_there, clear_end, clear_leaf-row, clear_leaf-changed, clear_below, clear_place, clear_once, clear_out, clear_below-row, clear_below-changed}
-use Rattle.rt_links.proofs.Near.{told_below}
+use Rattle.rt_nodes.proofs.Near.{told_below}
 use Rattle.rt_store.proofs.clear.+clear_row.Goals as goal
 use Rattle.rt_store.proofs.clear.+clear_row.Goals.{in-Some-split_first+else-is_some+else-not-vanishes, in_default-split_first}
 

@@ -3,7 +3,7 @@ use Rattle.std.specs.Prelude.{◌&&◌}
 use Rattle.std.specs.Ordering.{is_eq}
 use Rattle.slab.specs.Slab.{get}
 use Rattle.rt_order.specs.KeyOrder.{key_cmp}
-use Rattle.rt_links.specs.Forest.{row_at}
+use Rattle.rt_nodes.specs.Forest.{row_at}
 use Rattle.rt_store.specs.inside.Changes.{is_bare, cleared}
 use Rattle.rt_store.proofs.Vanishing.{vanish_more, vanish_other, vanish_end, vanish_below, vanish_place}
 use Rattle.rt_store.proofs.clear.+vanishes.Goals as goal

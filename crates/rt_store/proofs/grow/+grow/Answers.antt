@@ -4,9 +4,9 @@ use Rattle.std.specs.List.Sorted.{IsStrictlySortedBy}
 use Rattle.std.proofs.lemmas.List.{drop_all}
 use Rattle.rt_tree.specs.PathTree.{key_cmp, null, is_null, put, of_leaf, leaf_at, object, levels, AllFull}
 use Rattle.rt_tree.specs.Children.{is_object, children_of, children_sorted}
-use Rattle.rt_links.specs.Forest.{row_at}
-use Rattle.rt_links.proofs.Reached.{row_at-none}
-use Rattle.rt_links.proofs.Growing.{still_place, still_once, undone}
+use Rattle.rt_nodes.specs.Forest.{row_at}
+use Rattle.rt_nodes.proofs.Reached.{row_at-none}
+use Rattle.rt_nodes.proofs.Growing.{still_place, still_once, undone}
 use Rattle.rt_store.specs.Rows.{in_key_order}
 use Rattle.rt_store.specs.inside.Entries.{entries}
 use Rattle.rt_store.specs.inside.Growing.{seen}

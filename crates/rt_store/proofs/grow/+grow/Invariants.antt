@@ -1,7 +1,7 @@
 use Rattle.std.proofs.Common.{◌≡◌, ◌+◌, ◌*◌, length, drop, map}
 use Rattle.rt_tree.specs.PathTree.{levels, object}
 use Rattle.rt_store.specs.Rows.{in_key_order}
-use Rattle.rt_links.specs.Forest.{row_at}
+use Rattle.rt_nodes.specs.Forest.{row_at}
 use Rattle.rt_store.specs.inside.Entries.{entries}
 use Rattle.rt_store.specs.inside.Changes.{IsGrown}
 use Rattle.rt_store.specs.inside.Growing.{seen}

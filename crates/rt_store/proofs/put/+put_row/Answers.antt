@@ -1,8 +1,8 @@
 use Rattle.std.proofs.Common.{◌≡◌, Some, length, sym, ap, refl, ◌∙◌, arith, rules}
 use Rattle.slab.specs.Slab.{get}
 use Rattle.rt_store.proofs.Putting.{put_new, put_there, put_place, put_once, put_filled, put_here, put_below}
-use Rattle.rt_links.proofs.Growing.{old_place, old_once}
-use Rattle.rt_links.proofs.Near.{told_below}
+use Rattle.rt_nodes.proofs.Growing.{old_place, old_once}
+use Rattle.rt_nodes.proofs.Near.{told_below}
 use Rattle.rt_store.proofs.put.+put_row.Goals as goal
 
 pub returns-in-None-clause-ok : goal.returns-in-None-clause-ok

@@ -1,6 +1,6 @@
 use Rattle.std.proofs.Common.{rules, ◌≡◌, ◌==◌, [], ◌∷◌, cond, refl, subst, sym, ap, ◌∙◌}
 use Rattle.std.specs.List.{list_any}
-use Rattle.rt_links.proofs.Near.{told}
+use Rattle.rt_nodes.proofs.Near.{told}
 use Rattle.rt_forms.specs.Numbers.{with_number}
 use Rattle.rt_forms.specs.Forms.{Forms, numbers, share_form, IsAsBefore}
 use Rattle.rt_forms.specs.inside.FormsView.{IsForms}

@@ -1,8 +1,8 @@
 use Rattle.std.proofs.Common.{rules, ◌≡◌, ◌++◌, [], Some, None, subst, sym, ap, ◌∙◌, append-nil, OnOk}
 use Rattle.std.proofs.lemmas.Result.{on_ok_weaker}
 use Rattle.slab.specs.Slab.{get}
-use Rattle.rt_links.specs.Forest.{row_at}
-use Rattle.rt_links.proofs.Near.{told}
+use Rattle.rt_nodes.specs.Forest.{row_at}
+use Rattle.rt_nodes.proofs.Near.{told}
 use Rattle.rt_forms.specs.Forms.{Forms}
 use Rattle.rt_forms.specs.inside.FormsView.{all_under}
 use Rattle.rt_forms.specs.inside.Trees.{all_own, all_in}

@@ -1,5 +1,5 @@
 use Rattle.std.proofs.Common.{◌∙◌}
-use Rattle.rt_links.proofs.Reached.{row_at-none}
+use Rattle.rt_nodes.proofs.Reached.{row_at-none}
 use Rattle.rt_forms.specs.inside.Trees.{seen}
 use Rattle.rt_forms.proofs.AddLaws.{seen_empty}
 use Rattle.rt_forms.proofs.forms.Forms.new.Goals as goal

@@ -1,7 +1,7 @@
 use Rattle.std.proofs.Common.{rules, ◌≡◌, [], Some, None, subst, sym, ap, ◌∙◌}
 use Rattle.slab.specs.Slab.{get}
-use Rattle.rt_links.specs.Forest.{row_at}
-use Rattle.rt_links.proofs.Near.{told}
+use Rattle.rt_nodes.specs.Forest.{row_at}
+use Rattle.rt_nodes.proofs.Near.{told}
 use Rattle.rt_forms.specs.Forms.{Forms}
 use Rattle.rt_forms.specs.inside.Trees.{AreAt, own, seen}
 use Rattle.rt_forms.proofs.FilteredLaws.{standing_at}

@@ -1,7 +1,7 @@
 use Rattle.std.proofs.Common.{◌≡◌, Some, sym, ap, ◌∙◌, length, ◌∷◌, rules}
 use Rattle.std.specs.Option.{option_map}
 use Rattle.rt_store.proofs.Paths.{at_null-row, at_null-there, at_root-row, at_root-there, at_path-row, at_path-there}
-use Rattle.rt_links.proofs.Near.{told}
+use Rattle.rt_nodes.proofs.Near.{told}
 use Rattle.rt_store.proofs.store.Store.at.Goals as goal
 
 pub returns-then-is_null-clause-row : goal.returns-then-is_null-clause-row

@@ -1,7 +1,7 @@
 use Rattle.std.proofs.Common.{◌≡◌, ◌∷◌, length, rules}
 use Rattle.rt_store.proofs.ClearRow.{emptied, emptied_tree, cleared_store, cleared_tree}
 use Rattle.rt_store.proofs.Storing.{once_in}
-use Rattle.rt_links.proofs.Near.{told}
+use Rattle.rt_nodes.proofs.Near.{told}
 use Rattle.rt_store.proofs.store.Store.clear.Goals as goal
 
 pub invariant_of-self : goal.invariant_of-self

@@ -4,10 +4,10 @@ use Rattle.slab.specs.Slab.{get}
 use Rattle.rt_tree.specs.PathTree.{sub}
 use Rattle.rt_tree.specs.Allowed.{IsAllowed}
 use Rattle.rt_store.specs.Stored.{Stored}
-use Rattle.rt_links.specs.Forest.{row_at}
+use Rattle.rt_nodes.specs.Forest.{row_at}
 use Rattle.rt_store.specs.inside.Entries.{entries, tree_with}
 use Rattle.rt_store.proofs.Paths.{root_part, path_part, path_allowed, path_null, part_place, part_filled, part_is}
-use Rattle.rt_links.proofs.Near.{told}
+use Rattle.rt_nodes.proofs.Near.{told}
 use Rattle.rt_store.proofs.store.Store.get.Goals as goal
 
 pub returns-in_default : goal.returns-in_default

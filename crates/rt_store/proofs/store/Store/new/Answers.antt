@@ -1,8 +1,8 @@
 use Rattle.std.proofs.Common.{None, ap, sym, subst, ◌∙◌, refl, arith, is_some}
 use Rattle.rt_tree.specs.PathTree.{object}
 use Rattle.rt_tree.specs.Allowed.{IsAllowed, allowed-null}
-use Rattle.rt_links.specs.Forest.{Links, Sound, one_if, first, size, times}
-use Rattle.rt_links.proofs.Reached.{row_at-none}
+use Rattle.rt_nodes.specs.Forest.{Links, Sound, one_if, first, size, times}
+use Rattle.rt_nodes.proofs.Reached.{row_at-none}
 use Rattle.rt_store.specs.inside.Entries.{entries, Filled}
 use Rattle.rt_store.proofs.store.Store.new.Goals as goal
 

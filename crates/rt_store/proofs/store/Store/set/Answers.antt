@@ -1,9 +1,9 @@
 use Rattle.std.proofs.Common.{◌≡◌, ◌∷◌, ◌≤◌, ◌+◌, false, None, length, sym, ap, ◌∙◌, arith, rules}
 use Rattle.rt_tree.specs.PathTree.{is_null, null_of_is_null, put, levels, levels-null}
 use Rattle.rt_store.proofs.Storing.{once_in}
-use Rattle.rt_links.proofs.Growing.{old_place, old_once}
+use Rattle.rt_nodes.proofs.Growing.{old_place, old_once}
 use Rattle.rt_store.proofs.Putting.{set_nothing, set_as_before, set_root, set_root_tree, set_part, set_part_tree}
-use Rattle.rt_links.proofs.Near.{told}
+use Rattle.rt_nodes.proofs.Near.{told}
 use Rattle.rt_store.proofs.store.Store.set.Goals as goal
 
 pub returns-then-is_null-clause-ok : goal.returns-then-is_null-clause-ok

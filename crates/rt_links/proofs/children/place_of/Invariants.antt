@@ -1,8 +1,0 @@
-use Rattle.std.proofs.Common.{◌-◌, ◌≤◌, length}
-use Rattle.rt_links.proofs.children.place_of.Given as goal
-
-abbrev pub invariant-loop-low : goal.invariant-loop-low
-invariant-loop-low g l = (l.low ≤ l.high) × (l.high ≤ length l.piece)
-
-abbrev pub decreases-loop-low : goal.decreases-loop-low
-decreases-loop-low g l = l.high - l.low
