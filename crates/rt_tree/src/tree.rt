@@ -135,7 +135,7 @@ impl Tree {
     }
 
     /// The child at the key; `None` where that is null. Takes no memory.
-    pub fn child(&self, key: &Key) -> Option<&Tree>
+    pub fn child_at(&self, key: &Key) -> Option<&Tree>
         ensures { option_copied result ≡ non_null (child self.now key.now) }
     {
         self.at(from_ref(key))

@@ -23,8 +23,8 @@ impl Tree {
     /// The child of that name; `None` where that is null, as it is where the name is no key. Takes no
     /// memory.
     ///
-    /// Looks at one name after another. Of many children [`Tree::child`] finds one sooner, by its key.
-    pub fn child_named(&self, name: &str) -> Option<&Tree>
+    /// Looks at one name after another. Of many children [`Tree::child_at`] finds one sooner, by its key.
+    pub fn child(&self, name: &str) -> Option<&Tree>
         ensures { option_copied result ≡ non_null (child self.now name.now) }
     {
         match self.children() {
@@ -36,7 +36,7 @@ impl Tree {
     /// The part of the tree at a path, whose text is cut as [`Path::parse`](crate::Path::parse) cuts it;
     /// `None` where that is null, as it is where the text is no path. Takes no memory.
     ///
-    /// Looks at the children of each object on the way as [`Tree::child_named`] does.
+    /// Looks at the children of each object on the way as [`Tree::child`] does.
     pub fn part_at(&self, path: &str) -> Option<&Tree>
         ensures { option_copied result ≡ non_null (sub self.now (path_keys path.now)) }
     {
@@ -45,7 +45,7 @@ impl Tree {
             if name.is_empty() {
                 continue;
             }
-            match part.child_named(name) {
+            match part.child(name) {
                 Some(child) => part = child,
                 None => return None,
             }

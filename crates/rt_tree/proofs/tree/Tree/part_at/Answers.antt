@@ -37,16 +37,16 @@ loop-name-preserved c =
       next.2,
       kept.2 ∙ ap (λ names. sub part (filter is_nonempty names)) next.1
           ∙ ap (sub part) (filter-some c.in-Some.name.now next.0 (ap not (sym c.is_empty.ensures ∙ c.if-is_empty.false)))
-          ∙ part_goes_on part c.in-Some-child_named.child.now c.in-Some.name.now (filter is_nonempty next.0) c.in-Some-child_named.ensures,
+          ∙ part_goes_on part c.in-Some-child.child.now c.in-Some.name.now (filter is_nonempty next.0) c.in-Some-child.ensures,
     )
 
 -- there is none
-pub returns-in-None-child_named : goal.returns-in-None-child_named
-returns-in-None-child_named c =
+pub returns-in-None-child : goal.returns-in-None-child
+returns-in-None-child c =
     let kept = c.loop-name.invariant in
     let part = c.loop-name.part.now in
     let next = comes_next c.loop-name.name-iterator c.next.new.self c.in-Some.name kept.0 kept.1 c.in-Some.ensures.steps in
-    part_ends part c.in-Some.name.now (filter is_nonempty next.0) c.in-None-child_named.ensures
+    part_ends part c.in-Some.name.now (filter is_nonempty next.0) c.in-None-child.ensures
     ∙ ap non_null (sym (kept.2 ∙ ap (λ names. sub part (filter is_nonempty names)) next.1
     ∙ ap (sub part) (filter-some c.in-Some.name.now next.0 (ap not (sym c.is_empty.ensures ∙ c.if-is_empty.false)))))
 
