@@ -1,10 +1,10 @@
 -- What stands by its queries: it stands by their paths, where a query stands, and what keeps the order.
-use Rattle.std.proofs.Common.{◌≡◌, ℕ, zero, suc, ◌+◌, ◌<◌, ◌≤◌, Bool, true, false, List, [], ◌∷◌, length, take, drop, set, get_or, map, refl, sym, subst, ap, ◌∙◌, arith, ltb, ltb-true, ltb-false, nat_lt}
+use Rattle.std.proofs.Common.{◌≡◌, ℕ, zero, suc, ◌+◌, ◌<◌, ◌≤◌, Bool, true, false, not, List, [], ◌∷◌, length, take, drop, set, get_or, refl, sym, ap, ◌∙◌, arith, ltb, ltb-true, ltb-false, nat_lt}
 use mathlib.Core.Bool.{true≢false}
-use Rattle.std.specs.Cmp.{IsStrictWeakOrder, tied_itself, Equal-is}
+use Rattle.std.specs.Cmp.{IsStrictWeakOrder, tied_itself}
 use Rattle.std.specs.List.{filter, insert, remove, list_any, All, AllPairs, AllWithin}
 use Rattle.std.specs.List.Sorted.{IsPartitionedBy, IsPartitionPoint, IsNonDecreasingBy}
-use Rattle.std.specs.Ordering.{ordering_then, is_lt, ordering_index, ordering_reverse}
+use Rattle.std.specs.Ordering.{ordering_then, is_lt, is_gt, ordering_index, ordering_reverse}
 use Rattle.std.specs.declared.cmp.Ordering.{Ordering}
 use Rattle.std.specs.declared.cmp.Ordering.TheVariants.{Less, Equal, Greater}
 use Rattle.std.proofs.lemmas.List.{get_or_default, length-set}
@@ -18,7 +18,9 @@ use Rattle.rt_query.specs.QueryOrder.{query_cmp}
 use Rattle.rt_query.specs.laws.QueryEq.{query_eq_tells}
 use Rattle.rt_query.specs.laws.QueryOrder.{queries_total, exact_queries}
 use Rattle.rt_cache.specs.inside.ByPath.{by_whole, AreByPath, AreByQuery}
+use Rattle.rt_cache.specs.inside.Spans.{has_place}
 use Rattle.rt_cache.proofs.ByPaths.{none_of, set_alike, turned}
+use Rattle.rt_cache.proofs.InSpans.{placed}
 
 -- ---- by paths too
 
@@ -103,6 +105,63 @@ pub none_behind_all : {X : Type 0} (q : X → Query) (of : Query) (xs : List X) 
     → n ≡ length xs → list_any (λ y. query_eq (q y) of) xs ≡ false
 none_behind_all q of xs n point all =
     none_of (λ y. query_eq (q y) of) xs (λ k d lt. lesser_other (q (get_or xs k d)) of (point.0 k d (omega arith) (omega (arith, lt, all))))
+
+-- ---- where those of a query stand
+
+less_not_more : (o : Ordering) → is_lt o ≡ true → is_gt o ≡ false
+less_not_more Less e = refl
+less_not_more Equal e = refl
+less_not_more Greater e = absurd (true≢false (sym e))
+
+more_not_equal : (r q : Query) → not (is_gt (query_cmp r q)) ≡ false → query_eq r q ≡ false
+more_not_equal r q e = at (query_eq r q) refl
+  where
+    at : (b : Bool) → query_eq r q ≡ b → query_eq r q ≡ false
+    at false f = f
+    at true f = absurd (true≢false (ap (λ o. not (is_gt o)) (sym (tied_itself queries_total q)) ∙ ap (λ x. not (is_gt (query_cmp x q))) (sym ((query_eq_tells r q).0 f)) ∙ e))
+
+between_equal : (r q : Query) → is_lt (query_cmp r q) ≡ false → not (is_gt (query_cmp r q)) ≡ true → query_eq r q ≡ true
+between_equal r q a b = at (query_cmp r q) refl
+  where
+    at : (o : Ordering) → query_cmp r q ≡ o → query_eq r q ≡ true
+    at Less e = absurd (true≢false (sym (ap is_lt e) ∙ a))
+    at Equal e = (query_eq_tells r q).1 (exact_queries r q e)
+    at Greater e = absurd (true≢false (sym b ∙ ap (λ o. not (is_gt o)) e))
+
+abbrev pub StandsAfter : {X : Type 0} → (X → Query) → List X → Query → ℕ → Type 0
+StandsAfter q xs of end = IsPartitionPoint (λ y. not (is_gt (query_cmp (q y) of)) ≡ true) (λ y. not (is_gt (query_cmp (q y) of)) ≡ false) xs end
+
+-- those between where a query begins and where it is passed are of the query
+pub at_query : {X : Type 0} (q : X → Query) (of : Query) (xs : List X) (start end k : ℕ) (d : X)
+    → IsPartitionPoint (λ (y : X). is_lt (query_cmp (q y) of) ≡ true) (λ (y : X). is_lt (query_cmp (q y) of) ≡ false) xs start
+    → StandsAfter q xs of end → k < length xs
+    → query_eq (q (get_or xs k d)) of ≡ has_place k (record { start = start; end = end })
+at_query q of xs start end k d from after lt =
+    placed (query_eq r of) k start end
+    (λ before. lesser_other r of (from.0 k d (omega arith) before))
+    (λ a b. between_equal r of (from.1 k d a lt) (after.0 k d (omega arith) b))
+    (λ a b. more_not_equal r of (after.1 k d a lt))
+  where
+    r : Query
+    r = q (get_or xs k d)
+
+-- the first of a query stands no further than what is behind it
+pub from_after : {X : Type 0} (q : X → Query) (of : Query) (xs : List X) (start end : ℕ)
+    → IsPartitionPoint (λ (y : X). is_lt (query_cmp (q y) of) ≡ true) (λ (y : X). is_lt (query_cmp (q y) of) ≡ false) xs start
+    → StandsAfter q xs of end → start ≤ length xs → start ≤ end
+from_after {X} q of xs start end from after within = at (nat_lt end start) refl
+  where
+    one : (ys : List X) (k : ℕ) → k < length ys → X
+    one [] k lt = absurd (omega (arith, lt))
+    one (y ∷ ys) k lt = y
+
+    at : (b : Bool) → nat_lt end start ≡ b → start ≤ end
+    at false e = ltb-false end start e
+    at true e =
+        let lt : end < start = ltb-true end start e in
+        let there : end < length xs = omega (arith, lt, within) in
+        let d : X = one xs end there in
+        absurd (true≢false (sym (ap not (less_not_more (query_cmp (q (get_or xs end d)) of) (from.0 end d (omega arith) lt))) ∙ after.1 end d (omega arith) there))
 
 -- ---- what keeps the order
 

@@ -1,13 +1,13 @@
 -- Spans of a list, and what is left without them.
-use Rattle.std.proofs.Common.{◌≡◌, ℕ, zero, suc, ◌<◌, ◌≤◌, ◌+◌, ◌-◌, arith, length, get_or, take, drop, Bool, true, false, cond, not, ◌||◌, ◌&&◌, nat_le, nat_lt, List, [], ◌∷◌, ◌++◌, refl, sym, ap, subst, ◌∙◌, length-append}
-use Rattle.std.proofs.lemmas.Bool.{leb-true, leb-false, ltb-true, ltb-false, or_left, or_from}
+use Rattle.std.proofs.Common.{◌≡◌, ℕ, zero, suc, ◌<◌, ◌≤◌, ◌+◌, ◌-◌, arith, min, length, get_or, take, drop, Some, None, Bool, true, false, cond, not, ◌||◌, ◌&&◌, nat_le, nat_lt, List, [], ◌∷◌, ◌++◌, refl, sym, ap, subst, ◌∙◌, length-append}
+use Rattle.std.proofs.lemmas.Bool.{leb-true, leb-false, ltb-true, ltb-false, lt-ltb, le-ltb, or_left, or_from}
 use Rattle.std.proofs.lemmas.List.{drop_more, get_or_read, get_or-take, get_or-drop, length-take, length-drop, length-take-le, take-take, take-append-le, drop-append-le, drop-take}
 use Rattle.std.proofs.lemmas.List.Elements.{All-nil, All-cons, All-head, All-tail, filter-append}
 use Rattle.std.proofs.lemmas.List.Folds.{drop_split, list_any-append, list_any_none}
 use Rattle.std.specs.List.Sorted.{IsNonDecreasingBy}
 use Rattle.std.specs.List.{All, filter, flat_map, slice_range, remove_range}
 use Rattle.rt_cache.specs.declared.spans.Span.{Span}
-use Rattle.rt_cache.specs.inside.Spans.{has_place, have_place, AreInOrder, without}
+use Rattle.rt_cache.specs.inside.Spans.{has_place, have_place, AreInOrder, AreFilled, IsLastBefore, without}
 
 -- ---- one span
 
@@ -30,6 +30,10 @@ in_span k s le lt = sym (placed true k s.start s.end (λ h. absurd (omega (arith
 
 pub past_span : (k : ℕ) (s : Span) → s.end ≤ k → has_place k s ≡ false
 past_span k s le = sym (placed false k s.start s.end (λ h. refl) (λ a b. absurd (omega (arith, le, b))) (λ a b. refl))
+
+-- an empty one
+pub none_in : (k : ℕ) (s : Span) → s.end ≤ s.start → has_place k s ≡ false
+none_in k s le = sym (placed false k s.start s.end (λ h. refl) (λ a b. absurd (omega (arith, le, a, b))) (λ a b. refl))
 
 -- ---- spans in order
 
@@ -211,6 +215,27 @@ last_decides from (s ∷ spans) end k (suc n) d h lt le behind =
     let rest : s.end ≤ (get_or spans n d).start = starts_from s.end spans end n d h.2 (omega (arith, lt)) in
     ap (λ b. b || have_place spans k) (past_span k s (omega (arith, rest, le)))
     ∙ last_decides s.end spans end k n d h.2 (omega (arith, lt)) le (λ i e l m. behind (suc i) e (omega (arith, l)) (omega (arith, m)))
+
+-- ---- the last place in front of an end
+
+-- none begins in front of it
+pub none_in_front : (spans : List Span) (end : ℕ) → ((i : ℕ) (d : Span) → i < length spans → end ≤ (get_or spans i d).start) → IsLastBefore spans end None
+none_in_front spans end h k lt = none_from spans k (λ i d l. let from : end ≤ (get_or spans i d).start = h i d l in omega (arith, from, lt))
+
+-- the last span that begins in front of it decides
+pub last_in_front : (spans : List Span) (all end n : ℕ) (d : Span) → AreInOrder 0 spans all → AreFilled spans → n < length spans
+    → (get_or spans n d).start < end → ((i : ℕ) (e : Span) → n < i → i < length spans → end ≤ (get_or spans i e).start)
+    → (m : ℕ) → m + 1 ≡ min (get_or spans n d).end end → IsLastBefore spans end (Some m)
+last_in_front spans all end n d order filled lt front behind m is = (
+  decided m (omega (arith, is, some, front)) (omega (arith, is)) ∙ lt-ltb m (get_or spans n d).end (omega (arith, is)),
+  λ k more l. decided k (omega (arith, is, some, front, more)) l ∙ le-ltb k (get_or spans n d).end (omega (arith, is, more, l)),
+)
+  where
+    some : (get_or spans n d).start < (get_or spans n d).end
+    some = filled n d lt
+
+    decided : (k : ℕ) → (get_or spans n d).start ≤ k → k < end → have_place spans k ≡ nat_lt k (get_or spans n d).end
+    decided k le l = last_decides 0 spans all k n d order lt le (λ i e j h. let from : end ≤ (get_or spans i e).start = behind i e j h in omega (arith, from, l))
 
 -- ---- places between spans
 

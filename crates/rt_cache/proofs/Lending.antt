@@ -9,13 +9,14 @@ use Rattle.std.specs.declared.result.Result.{Result}
 use Rattle.std.specs.declared.result.Result.TheVariants.{Ok}
 use Rattle.std.proofs.lemmas.List.{drop_more, get_or-map}
 use Rattle.std.proofs.lemmas.List.Elements.{filter_passes, at_read}
-use Rattle.std.proofs.lemmas.List.Folds.{Any-from_list_any}
-use Rattle.rt_tree.specs.PathTree.{Path, PathTree, path_cmp}
+use Rattle.std.proofs.lemmas.List.Folds.{Any-from_list_any, list_any-append}
+use Rattle.rt_tree.specs.PathTree.{Path, PathTree}
 use Rattle.rt_tree.specs.Assignments.{is_at_or_above, have_overlap}
 use Rattle.rt_tree.specs.TreeEq.{both_first, both_second, both}
 use Rattle.rt_query.specs.Queries.{Query, is_filtered}
 use Rattle.rt_query.specs.QueryEq.{query_eq}
 use Rattle.rt_query.specs.QueryOrder.{query_cmp}
+use Rattle.rt_query.specs.laws.QueryEq.{query_eq_tells}
 use Rattle.rt_cache.specs.Brought.{region_part}
 use Rattle.rt_cache.specs.Recover.{reaches, regions_kept, is_among}
 use Rattle.rt_cache.specs.declared.by_path.Lent.{Lent}
@@ -26,11 +27,12 @@ use Rattle.rt_cache.specs.inside.ByPath.{AreByQuery}
 use Rattle.rt_cache.specs.inside.Cuts.{parts_left, IsCut}
 use Rattle.rt_cache.specs.inside.Handing.{lent_queries, window_queries, is_alike, is_region_lost, AreThose}
 use Rattle.rt_cache.specs.inside.Held.{pair_of, pairs_of}
-use Rattle.rt_cache.specs.inside.Spans.{have_place}
+use Rattle.rt_cache.specs.inside.Spans.{has_place, have_place}
 use Rattle.rt_cache.proofs.Among.{any_with, of_among}
 use Rattle.rt_cache.proofs.ByPaths.{any_map}
 use Rattle.rt_cache.proofs.ByQueries.{by_query-filter}
 use Rattle.rt_cache.proofs.Cuts.{part_any}
+use Rattle.rt_cache.proofs.InSpans.{none_in}
 use Rattle.rt_cache.proofs.Parts.{all_dropped, held_by, held_at, of_not}
 
 -- ---- lists of queries
@@ -104,6 +106,38 @@ one_fails test old new forms n f whole lt at e same is =
 pub all_passed : (test : Query → Bool) (lent forms : List Lent) (n : ℕ) (whole : List Query) → length forms ≤ n → lent_queries lent ++ filter test (lent_queries (drop n forms)) ≡ whole → lent_queries lent ≡ whole
 all_passed test lent forms n whole done is =
     sym (append-nil (lent_queries lent)) ∙ ap (λ (ls : List Lent). lent_queries lent ++ filter test (lent_queries ls)) (sym (all_dropped n forms done)) ∙ is
+
+query_eq_turned : (x y : Query) → query_eq x y ≡ query_eq y x
+query_eq_turned x y = at (query_eq x y) refl (query_eq y x) refl
+  where
+    at : (a : Bool) → query_eq x y ≡ a → (b : Bool) → query_eq y x ≡ b → query_eq x y ≡ query_eq y x
+    at true e true f = e ∙ sym f
+    at true e false f = absurd (true≢false (sym ((query_eq_tells y x).1 (sym ((query_eq_tells x y).0 e))) ∙ f))
+    at false e true f = absurd (true≢false (sym ((query_eq_tells x y).1 (sym ((query_eq_tells y x).0 f))) ∙ e))
+    at false e false f = e ∙ sym f
+
+-- where those of one query more stand, and those of the others
+pub span_more : (those : List Lent) (n : ℕ) (one : Lent) (spans : List Span) (s : Span) (k : ℕ) (x : Query) → n < length those → one ≡ get_or those n one
+    → query_eq x one.query.now ≡ has_place k s
+    → (have_place (spans ++ s ∷ []) k || is_among (lent_queries (drop (n + 1) those)) x) ≡ (have_place spans k || is_among (lent_queries (drop n those)) x)
+span_more those n one spans s k x lt at exact =
+    ap (λ b. b || is_among (lent_queries (drop (n + 1) those)) x) (list_any-append (has_place k) spans (s ∷ []))
+    ∙ moved (have_place spans k) (has_place k s) (is_among (lent_queries (drop (n + 1) those)) x)
+    ∙ ap (λ b. have_place spans k || (b || is_among (lent_queries (drop (n + 1) those)) x)) (sym exact ∙ query_eq_turned x one.query.now)
+    ∙ ap (λ qs. have_place spans k || is_among qs x) (sym (lent_dropped those n one lt at))
+  where
+    moved : (a b c : Bool) → ((a || (b || false)) || c) ≡ (a || (b || c))
+    moved true b c = refl
+    moved false true c = refl
+    moved false false c = refl
+
+-- where there are none of it
+pub span_less : (those : List Lent) (n : ℕ) (one : Lent) (spans : List Span) (s : Span) (k : ℕ) (x : Query) → n < length those → one ≡ get_or those n one
+    → s.end ≤ s.start → query_eq x one.query.now ≡ has_place k s
+    → (have_place spans k || is_among (lent_queries (drop (n + 1) those)) x) ≡ (have_place spans k || is_among (lent_queries (drop n those)) x)
+span_less those n one spans s k x lt at empty exact =
+    ap (λ b. have_place spans k || (b || is_among (lent_queries (drop (n + 1) those)) x)) (sym (sym (query_eq_turned x one.query.now) ∙ exact ∙ none_in k s empty))
+    ∙ ap (λ qs. have_place spans k || is_among qs x) (sym (lent_dropped those n one lt at))
 
 -- what is so of a value that is there
 pub of_ok : {A E : Type 0} (r : Result A E) (x : A) (P : A → Type 0) → r ≡ Ok x → IfOk r P → P x

@@ -1,6 +1,6 @@
 -- What follows a path, and parts that are not there.
 use Rattle.std.proofs.Common.{◌≡◌, ◌≤◌, true, false, cond, [], ◌∷◌, ◌++◌, length, drop, refl, sym, ap, ◌∙◌, arith, Option, Some, None, is_some}
-use Rattle.rt_tree.specs.PathTree.{Key, Path, PathTree, strip, strip-some, length-strip, null, is_null, null_of_is_null, non_null, leaf_at-null, leaf_at-sub, same_tree, sub, child}
+use Rattle.rt_tree.specs.PathTree.{Key, Path, PathTree, strip, strip-some, length-strip, null, is_null, null_of_is_null, non_null, leaf_at-null, leaf_at-sub, same_tree, child}
 
 pub some_of : {X : Type 0} (o : Option X) → is_some o ≡ true → (x : X) × (o ≡ Some x)
 some_of None e = cc

@@ -1,9 +1,8 @@
 -- Queries that stand by their paths, and those of them that supply another one.
-use Rattle.std.proofs.Common.{◌≡◌, ℕ, zero, suc, ◌+◌, ◌<◌, ◌≤◌, below_more, nat_lt, Bool, true, false, not, ◌&&◌, ◌||◌, List, [], ◌∷◌, length, get_or, map, refl, sym, ap, ◌∙◌, arith, ltb-true, ltb-false}
-use Rattle.std.proofs.Common.{Option, Some, None, is_some, cond}
+use Rattle.std.proofs.Common.{◌≡◌, ℕ, zero, suc, ◌+◌, ◌<◌, ◌≤◌, nat_lt, Bool, true, false, not, ◌&&◌, ◌||◌, List, [], ◌∷◌, length, get_or, map, refl, sym, ap, ◌∙◌, arith, ltb-true, ltb-false}
+use Rattle.std.proofs.Common.{Some, None, is_some, cond}
 use mathlib.Core.Bool.{true≢false}
-use Rattle.std.specs.Prelude.{IfSome, IfNone}
-use Rattle.std.specs.List.{filter, find, list_any, All, AllWithin}
+use Rattle.std.specs.List.{filter, find, list_any, All}
 use Rattle.std.specs.Ordering.{is_lt}
 use Rattle.std.specs.FinMap as map_of
 use Rattle.std.specs.Option.{option_map}

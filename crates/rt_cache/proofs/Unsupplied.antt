@@ -1,5 +1,5 @@
 -- Of queries that stand in order those that no other of them supplies: asked one by one of those that are left so far.
-use Rattle.std.proofs.Common.{◌≡◌, ℕ, ◌+◌, ◌-◌, ◌<◌, ◌≤◌, Bool, true, false, not, ◌&&◌, List, [], ◌∷◌, ◌++◌, length, get_or, drop, map, refl, sym, ap, subst, ◌∙◌, arith, nat_lt, ltb-true, ltb-false, length-append}
+use Rattle.std.proofs.Common.{◌≡◌, ℕ, ◌+◌, ◌-◌, ◌<◌, ◌≤◌, Bool, true, false, not, ◌&&◌, List, ◌++◌, length, get_or, drop, refl, sym, ap, subst, ◌∙◌, arith, nat_lt, ltb-true, ltb-false, length-append}
 use mathlib.Core.Bool.{true≢false}
 use Rattle.std.specs.List.{filter, list_any, All, Any, Contains}
 use Rattle.std.specs.Ordering.{is_lt, is_gt, ordering_reverse}

@@ -307,11 +307,10 @@ impl Brought {
     /// paths that halving meets, and no tree. For each plain listen kept it finds by halving the region
     /// above it and whether that is lost. It sorts the registered forms by path, without copying one,
     /// and looks for the form of each window by halving. For each registered filtered form it finds by
-    /// halving the region above it and the windows that supply it, and goes over these. Of the forms that
-    /// lose something it finds the widest by halving. It copies only the parts and the windows that are
-    /// handed on. For each row of lost regions, and for
-    /// each part or window, a pointer of each of those behind is moved; where none is lost, no region is
-    /// touched.
+    /// halving the region above it, the last window that supplies it, and the last of those that stays.
+    /// Of the forms that lose something it finds the widest by halving. It copies only the parts and the
+    /// windows that are handed on. For each row of lost regions, and for each part or window, a pointer of
+    /// each of those behind is moved; where none is lost, no region is touched.
     ///
     /// An `Err` is want of memory, and changes nothing: all that is made is made before the first
     /// change.
@@ -342,8 +341,8 @@ impl Brought {
     /// Finds what these forms and listens name by halving: the regions at and under each plain one, the
     /// region above each listen that begins, the window of each form that ends. Of the filtered forms it
     /// looks at those at or under a region that is lost, and at those of the path of a form without limit
-    /// that ends and has a window. Of the windows it looks at those that supply one of these. It sorts
-    /// the forms that end, and those that it looks at, by query. It copies only the parts
+    /// that ends and has a window. Of the windows that supply one of these it finds by halving the last one
+    /// that stays. It sorts the forms that end, and those that it looks at, by query. It copies only the parts
     /// and the windows that are handed on, and moves pointers to what stands behind.
     ///
     /// An `Err` is want of memory, and changes nothing.

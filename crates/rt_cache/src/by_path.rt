@@ -105,6 +105,38 @@ pub(crate) fn first_of<T: HasQuery>(items: &[T], query: &Query) -> usize
     items.partition_point(|item| is_before_query(item, query))
 }
 
+// Whether its query doesn't stand behind this one.
+fn is_not_behind<T: HasQuery>(item: &T, query: &Query) -> bool
+    ensures { result ≡ not (is_gt (query_cmp (T.query_of item.now) query.now)) }
+{
+    !query_cmp(item.query(), query).is_gt()
+}
+
+// Where the first stands that is behind the query, by halving.
+fn first_after<T: HasQuery>(items: &[T], query: &Query) -> usize
+    requires { AreByQuery T.query_of items.now }
+    ensures within { result ≤ length items.now }
+    ensures point { IsPartitionPoint (λ x. not (is_gt (query_cmp (T.query_of x) query.now)) ≡ true)
+        (λ x. not (is_gt (query_cmp (T.query_of x) query.now)) ≡ false) items.now result }
+{
+    items.partition_point(|item| is_not_behind(item, query))
+}
+
+// Where those of the query stand, by halving.
+pub(crate) fn span_of<T: HasQuery>(items: &[T], query: &Query) -> Span
+    requires { AreByQuery T.query_of items.now }
+    ensures ordered { result.start ≤ result.end }
+    ensures within { result.end ≤ length items.now }
+    ensures exact { (k : ℕ) (d : T) → k < length items.now
+        → query_eq (T.query_of (slice_index_or items.now k d)) query.now ≡ has_place k result }
+{
+    let start = first_of(items, query);
+    Span {
+        start,
+        end: first_after(items, query),
+    }
+}
+
 // Where the first of the query stands, by halving.
 pub(crate) fn place_of<T: HasQuery>(items: &[T], query: &Query) -> Option<usize>
     requires { AreByQuery T.query_of items.now }

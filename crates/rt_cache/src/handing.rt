@@ -11,7 +11,7 @@ ghost use Rattle.rt_query.specs.Queries.{Query, is_filtered};
 ghost use Rattle.rt_query.specs.Needed.{needed};
 ghost use Rattle.rt_query.specs.Supply.{does_supply};
 ghost use Rattle.rt_cache.specs.Brought.{base};
-ghost use Rattle.rt_cache.specs.Recover.{in_query_order, window_left, handed_on};
+ghost use Rattle.rt_cache.specs.Recover.{in_query_order, window_left, handed_on, is_among};
 ghost use Rattle.rt_cache.specs.declared.registered.Form.{Form};
 ghost use Rattle.rt_cache.specs.inside.ByPath.{AreByPath, AreByQuery, AreApart, query_of, is_other_supplier};
 ghost use Rattle.rt_query.specs.QueryOrder.{query_cmp, unlimited};
@@ -21,20 +21,20 @@ ghost use Rattle.rt_cache.specs.inside.Cuts.{IsCut};
 ghost use Rattle.rt_cache.specs.inside.Handing.{lent_queries, window_queries, is_region_lost};
 ghost use Rattle.rt_cache.specs.inside.Handing.{is_alike, is_staying, staying_of, is_window_lost, is_loser};
 ghost use Rattle.rt_cache.specs.inside.Handing.{is_under_one, is_under_lost_one, hands_on, is_beside_one};
-ghost use Rattle.rt_cache.specs.inside.Handing.{AreThose, AreGathered, AreLentOf, AreHanded};
+ghost use Rattle.rt_cache.specs.inside.Handing.{AreThose, AreGathered, AreLentOf, AreHanded, AreStaying};
 ghost use Rattle.rt_cache.specs.inside.Held.{pairs_of, entry_of, entries_of, held};
 ghost use Rattle.rt_cache.specs.inside.Listed.{form_query};
 ghost use Rattle.rt_cache.specs.inside.Sources.{HaveForms, AreBeside};
-ghost use Rattle.rt_cache.specs.inside.Spans.{has_place};
+ghost use Rattle.rt_cache.specs.inside.Spans.{has_place, have_place, AreInOrder};
 
 use crate::by_path::{
     HasQuery, Lent, first_behind, first_from, has_other_supplier, has_supplier, in_query_order,
-    is_other_supplier, last_supplier, place_of, span_under,
+    is_other_supplier, last_supplier, place_of, span_of, span_under,
 };
 use crate::region::BoxedRegion;
 use crate::regions::{part_at, place_above};
 use crate::registered::{BoxedForm, Forms};
-use crate::spans::{Span, is_within};
+use crate::spans::{Span, is_within, last_before, places_beside};
 use crate::window::BoxedWindow;
 use crate::windows::{place_of_source, place_of_window};
 use rt_query::Query;
@@ -79,12 +79,46 @@ fn is_staying(query: &Query, those: &[Lent<'_>], among: bool) -> bool
     is_alike(place_of(those, query).is_some(), among)
 }
 
-// Whether a window is of one of those, or of one that is not, and its query supplies this one.
-fn is_staying_supplier(other: &Query, those: &[Lent<'_>], among: bool, query: &Query) -> bool
-    requires those { AreByQuery (λ l. l.query.now) those.now }
-    ensures { result ≡ (does_supply other.now query.now && is_staying (lent_queries those.now) among other.now) }
+// Where the windows of those stand.
+fn spans_of(
+    alloc: Global,
+    windows: &[BoxedWindow],
+    those: &[Lent<'_>],
+) -> Result<Vec<Span>, AllocError>
+    requires { AreByQuery query_of windows.now }
+    ensures within { IfOk result (λ spans. All (λ s. (s.start ≤ s.end)
+        × (s.end ≤ length windows.now)) spans.items) }
+    ensures places { IfOk result (λ spans. (k : ℕ) (d : Window) → k < length windows.now
+        → have_place spans.items k
+        ≡ is_among (lent_queries those.now) (slice_index_or windows.now k d).query) }
 {
-    other.supplies(query) && is_staying(other, those, among)
+    let mut spans = Vec::new(alloc);
+    for one in those {
+        let span = span_of(windows, one.query);
+        if span.start < span.end {
+            spans.push(span)?;
+        }
+    }
+    Ok(spans)
+}
+
+// Where the windows stand that stay: those of those, or those that are of none of them.
+fn spans_staying(
+    alloc: Global,
+    windows: &[BoxedWindow],
+    those: &[Lent<'_>],
+    among: bool,
+) -> Result<Vec<Span>, AllocError>
+    requires { AreByQuery query_of windows.now }
+    ensures { IfOk result (λ spans. AreStaying (lent_queries those.now) among windows.now spans.items) }
+{
+    let spans = spans_of(alloc, windows, those)?;
+    let others = places_beside(alloc, spans, windows.len())?;
+    if among {
+        places_beside(alloc, others, windows.len())
+    } else {
+        Ok(others)
+    }
 }
 
 // How many windows stand up to the last that supplies the query as another one: none where there is none.
@@ -105,68 +139,58 @@ fn count_to_supplier(windows: &[BoxedWindow], query: &Query) -> usize
 }
 
 // Whether a window that stays is of another query that supplies this one. Those that supply it stand one
-// behind another: goes over these alone.
-fn has_other_staying(
-    windows: &[BoxedWindow],
-    those: &[Lent<'_>],
-    among: bool,
-    query: &Query,
-) -> bool
+// behind another: the last of these that stays is found by halving, or one that doesn't supply it.
+fn has_other_staying(windows: &[BoxedWindow], staying: &[Span], query: &Query) -> bool
     requires order { AreByQuery query_of windows.now }
     requires filtered { All (λ w. is_filtered w.query ≡ true) windows.now }
     requires apart { AreApart query_of windows.now }
-    requires those { AreByQuery (λ l. l.query.now) those.now }
-    ensures { result ≡ list_any (λ w. is_other_supplier w.query query.now
-        && is_staying (lent_queries those.now) among w.query) windows.now }
+    ensures { (those : List Query) (among : Bool) → AreStaying those among windows.now staying.now
+        → result ≡ list_any (λ w. is_other_supplier w.query query.now && is_staying those among w.query)
+        windows.now }
 {
-    let mut left = count_to_supplier(windows, query);
-    while left > 0 {
-        let place = left - 1;
-        let other = windows[place].query();
-        if !is_other_supplier(other, query) {
-            return false;
-        }
-        if is_staying(other, those, among) {
-            return true;
-        }
-        left = place;
-    }
-    false
+    let count = count_to_supplier(windows, query);
+    let Some(place) = last_before(staying, count) else {
+        return false;
+    };
+    is_other_supplier(windows[place].query(), query)
+}
+
+// Whether the window at the place stays, and its query, which is this one, supplies another.
+fn is_staying_supplier(other: &Query, place: usize, staying: &[Span], query: &Query) -> bool
+    ensures { (end : ℕ) → AreInOrder 0 staying.now end
+        → result ≡ (does_supply other.now query.now && have_place staying.now place) }
+{
+    other.supplies(query) && is_within(staying, place)
 }
 
 // Whether a window that stays supplies the query. Where its own is there, no other one does.
-fn has_staying_supplier(
-    windows: &[BoxedWindow],
-    those: &[Lent<'_>],
-    among: bool,
-    query: &Query,
-) -> bool
+fn has_staying_supplier(windows: &[BoxedWindow], staying: &[Span], query: &Query) -> bool
     requires order { AreByQuery query_of windows.now }
     requires filtered { All (λ w. is_filtered w.query ≡ true) windows.now }
     requires apart { AreApart query_of windows.now }
-    requires those { AreByQuery (λ l. l.query.now) those.now }
-    ensures { result ≡ list_any (λ f. does_supply f query.now)
-        (staying_of (lent_queries those.now) among (window_queries windows.now)) }
+    ensures { (those : List Query) (among : Bool) → AreStaying those among windows.now staying.now
+        → result ≡ list_any (λ f. does_supply f query.now)
+        (staying_of those among (window_queries windows.now)) }
 {
     match place_of(windows, query) {
-        Some(place) => is_staying_supplier(windows[place].query(), those, among, query),
-        None => has_other_staying(windows, those, among, query),
+        Some(place) => is_staying_supplier(windows[place].query(), place, staying, query),
+        None => has_other_staying(windows, staying, query),
     }
 }
 
 // Whether a window supplies the query, and none of those that stay.
-fn loses_window(windows: &[BoxedWindow], those: &[Lent<'_>], among: bool, query: &Query) -> bool
+fn loses_window(windows: &[BoxedWindow], staying: &[Span], query: &Query) -> bool
     requires order { AreByQuery query_of windows.now }
     requires filtered { All (λ w. is_filtered w.query ≡ true) windows.now }
     requires apart { AreApart query_of windows.now }
-    requires those { AreByQuery (λ l. l.query.now) those.now }
-    ensures { result ≡ is_window_lost (window_queries windows.now)
-        (staying_of (lent_queries those.now) among (window_queries windows.now)) query.now }
+    ensures { (those : List Query) (among : Bool) → AreStaying those among windows.now staying.now
+        → result ≡ is_window_lost (window_queries windows.now)
+        (staying_of those among (window_queries windows.now)) query.now }
 {
     if !has_supplier(windows, query) {
         return false;
     }
-    !has_staying_supplier(windows, those, among, query)
+    !has_staying_supplier(windows, staying, query)
 }
 
 // Whether a filtered form, of those or of the others, loses what it had.
@@ -177,6 +201,7 @@ fn loses(
     windows: &[BoxedWindow],
     those: &[Lent<'_>],
     among: bool,
+    staying: &[Span],
     form: &Query,
 ) -> bool
     requires sorted { T (map_of.is_sorted path_cmp (pairs_of regions.now)) }
@@ -187,6 +212,7 @@ fn loses(
     requires filtered { All (λ w. is_filtered w.query ≡ true) windows.now }
     requires windows_apart { AreApart query_of windows.now }
     requires those { AreByQuery (λ l. l.query.now) those.now }
+    requires staying { AreStaying (lent_queries those.now) among windows.now staying.now }
     ensures { (kept : List Query) → IsCut kept regions.now lost.now parts.now
         → result ≡ (is_staying (lent_queries those.now) among form.now
         && is_loser kept (pairs_of regions.now) (window_queries windows.now)
@@ -201,7 +227,7 @@ fn loses(
     if loses_region(regions, lost, parts, form) {
         return true;
     }
-    loses_window(windows, those, among, form)
+    loses_window(windows, staying, form)
 }
 
 // Of these forms, those that lose what they had.
@@ -214,6 +240,7 @@ fn losers<'a>(
     forms: &[Lent<'a>],
     those: &[Lent<'_>],
     among: bool,
+    staying: &[Span],
 ) -> Result<Vec<Lent<'a>>, AllocError>
     requires sorted { T (map_of.is_sorted path_cmp (pairs_of regions.now)) }
     requires apart { have_overlap (pairs_of regions.now) ≡ false }
@@ -223,6 +250,7 @@ fn losers<'a>(
     requires filtered { All (λ w. is_filtered w.query ≡ true) windows.now }
     requires windows_apart { AreApart query_of windows.now }
     requires those { AreByQuery (λ l. l.query.now) those.now }
+    requires staying { AreStaying (lent_queries those.now) among windows.now staying.now }
     ensures { (kept : List Query) → IsCut kept regions.now lost.now parts.now
         → IfOk result (λ lent. lent_queries lent.items
         ≡ filter (λ q. is_staying (lent_queries those.now) among q
@@ -231,7 +259,9 @@ fn losers<'a>(
 {
     let mut lent = Vec::new(alloc);
     for form in forms {
-        if loses(regions, lost, parts, windows, those, among, form.query) {
+        if loses(
+            regions, lost, parts, windows, those, among, staying, form.query,
+        ) {
             lent.push(Lent { query: form.query })?;
         }
     }
@@ -335,7 +365,10 @@ pub(crate) fn windows_handed(
         → IfOk result (λ handed. AreHanded registered kept (held were.now regions.now windows.now)
         (entries_of handed.items)) }
 {
-    let losing = losers(alloc, regions, lost, parts, windows, forms, those, among)?;
+    let staying = spans_staying(alloc, windows, those, among)?;
+    let losing = losers(
+        alloc, regions, lost, parts, windows, forms, those, among, &staying,
+    )?;
     let mut heirs = unsupplied(alloc, &losing)?;
     // Their windows are put in their places from the last on: so each is put behind those before it.
     heirs.reverse();

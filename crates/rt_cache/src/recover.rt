@@ -25,7 +25,7 @@ use crate::handing::{windows_handed, windows_of_ended};
 use crate::region::BoxedRegion;
 use crate::regions::{insert, part_at, place_above, region_of, remove_span, span_under};
 use crate::registered::Forms;
-use crate::spans::{Span, is_within, places_between};
+use crate::spans::{Span, is_within, places_beside};
 use crate::window::BoxedWindow;
 use crate::windows::{put_windows, remove_queries};
 use rt_query::Query;
@@ -56,21 +56,6 @@ fn spans_kept(
     Ok(spans)
 }
 
-// Where those regions stand that are in none of the spans.
-fn spans_between(
-    alloc: Global,
-    regions: &[BoxedRegion],
-    mut spans: Vec<Span>,
-) -> Result<Vec<Span>, AllocError>
-    requires within { All (λ s. (s.start ≤ s.end) × (s.end ≤ length regions.now)) spans.items }
-    ensures order { IfOk result (λ gaps. AreInOrder 0 gaps.items (length regions.now)) }
-    ensures places { IfOk result (λ gaps. (k : ℕ) → k < length regions.now
-        → have_place gaps.items k ≡ not (have_place spans.items k)) }
-{
-    spans.sort_unstable_by_key(|span| span.start);
-    places_between(alloc, &spans, regions.len())
-}
-
 // Where the regions stand that are lost: between those that the plain listens reach.
 fn spans_lost(
     alloc: Global,
@@ -82,7 +67,7 @@ fn spans_lost(
     ensures short { OnOk result (AreShort kept.now) }
 {
     let spans = spans_kept(alloc, regions, kept)?;
-    spans_between(alloc, regions, spans)
+    places_beside(alloc, spans, regions.len())
 }
 
 // Where the regions stand that plain forms reached which end, and none of those that begin.
@@ -100,10 +85,10 @@ fn spans_ended(
         || reaches begun.now (slice_index_or regions.now k d).path)) }
 {
     let reached = spans_kept(alloc, regions, ended)?;
-    let mut staying = spans_between(alloc, regions, reached)?;
+    let mut staying = places_beside(alloc, reached, regions.len())?;
     let mut held = spans_kept(alloc, regions, begun)?;
     staying.append(&mut held)?;
-    spans_between(alloc, regions, staying)
+    places_beside(alloc, staying, regions.len())
 }
 
 // The part that a lost region leaves to the query, where that is a plain listen under it.

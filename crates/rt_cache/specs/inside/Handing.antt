@@ -1,5 +1,6 @@
 -- What forms lose in a change of cover, by what is found where it is kept.
-use Rattle.std.specs.Prelude.{◌≡◌, Bool, true, not, ◌&&◌, ◌||◌, if◌then◌else◌, List, map, is_some}
+use Rattle.std.specs.Prelude.{◌≡◌, ℕ, ◌<◌, Bool, true, not, ◌&&◌, ◌||◌, if◌then◌else◌, List, length, map, is_some}
+use Rattle.std.specs.Prelude.{slice_index_or}
 use Rattle.std.specs.List.{filter, list_any, slice_range, All, Contains}
 use Rattle.std.specs.FinMap as map_of
 use Rattle.rt_tree.specs.PathTree.{Path, PathTree, path_eq}
@@ -17,6 +18,7 @@ use Rattle.rt_cache.specs.declared.spans.Span.{Span}
 use Rattle.rt_cache.specs.declared.window.Window.{Window}
 use Rattle.rt_cache.specs.inside.Held.{entries_of}
 use Rattle.rt_cache.specs.inside.Listed.{queries_of}
+use Rattle.rt_cache.specs.inside.Spans.{have_place, AreInOrder, AreFilled}
 
 -- the queries that are lent, and those of windows
 abbrev pub lent_queries : List Lent → List Query
@@ -45,6 +47,13 @@ is_staying those among q = is_alike (is_among those q) among
 
 abbrev pub staying_of : (those : List Query) → Bool → (windows : List Query) → List Query
 staying_of those among windows = filter (is_staying those among) windows
+
+-- the spans have the places of the windows that stay
+pub record AreStaying (those : List Query) (among : Bool) (windows : List Window) (spans : List Span) : Type 0 where
+  pub order : AreInOrder 0 spans (length windows)
+  pub filled : AreFilled spans
+  pub places : (k : ℕ) (d : Window) → k < length windows
+      → have_place spans k ≡ is_staying those among (slice_index_or windows k d).query
 
 -- whether a filtered form loses what it had
 abbrev pub is_loser : List Query → List (Path × PathTree) → (windows staying : List Query) → Query → Bool

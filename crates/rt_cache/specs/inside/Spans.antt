@@ -1,7 +1,7 @@
 -- Places of a list that follow one another.
 use Rattle.std.specs.Prelude.{◌≡◌, ℕ, ◌<◌, ◌≤◌, Bool, not, ◌&&◌, nat_le, nat_lt, List, [], ◌∷◌, length}
-use Rattle.std.specs.Prelude.{slice_index_or}
-use Rattle.std.specs.List.{list_any, remove_range}
+use Rattle.std.specs.Prelude.{slice_index_or, true, false, Option, Some, None}
+use Rattle.std.specs.List.{list_any, remove_range, All}
 use Rattle.rt_query.specs.Queries.{Query}
 use Rattle.rt_cache.specs.Recover.{reaches}
 use Rattle.rt_cache.specs.declared.region.Region.{Region}
@@ -31,3 +31,13 @@ AreLost kept regions spans =
     AreInOrder 0 spans (length regions)
     × ((k : ℕ) (d : Region) → k < length regions
     → not (reaches kept (slice_index_or regions k d).path) ≡ have_place spans k)
+
+-- none of the spans is empty
+abbrev pub AreFilled : List Span → Type 0
+AreFilled spans = All (λ s. s.start < s.end) spans
+
+-- the last place in front of the end that is in one of the spans
+abbrev pub IsLastBefore : List Span → ℕ → Option ℕ → Type 0
+IsLastBefore spans end None = (k : ℕ) → k < end → have_place spans k ≡ false
+IsLastBefore spans end (Some n) = (have_place spans n ≡ true)
+    × ((k : ℕ) → n < k → k < end → have_place spans k ≡ false)

@@ -1,4 +1,4 @@
-use Rattle.std.proofs.Common.{rules, ◌≡◌, ℕ, ◌+◌, ◌-◌, ◌<◌, arith, length, get_or, false}
+use Rattle.std.proofs.Common.{rules, ◌≡◌, ℕ, ◌+◌, ◌-◌, arith, get_or, false}
 use Rattle.rt_cache.specs.inside.ByPath.{is_other_supplier}
 use Rattle.rt_cache.proofs.Apart.{only_at}
 use Rattle.rt_cache.proofs.by_path.is_only_supplier.Goals as goal

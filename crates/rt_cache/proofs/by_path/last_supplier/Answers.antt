@@ -1,4 +1,4 @@
-use Rattle.std.proofs.Common.{rules, ◌≡◌, ℕ, ◌+◌, ◌-◌, ◌<◌, ◌≤◌, arith, length, get_or, false, true}
+use Rattle.std.proofs.Common.{rules, ◌≡◌, ℕ, ◌+◌, ◌-◌, ◌<◌, arith, length, get_or, false}
 use Rattle.rt_cache.specs.inside.ByPath.{is_other_supplier}
 use Rattle.rt_cache.proofs.Apart.{none_from_behind, none_unless_last}
 use Rattle.rt_cache.proofs.by_path.last_supplier.Goals as goal

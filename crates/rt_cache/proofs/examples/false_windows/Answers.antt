@@ -1,4 +1,4 @@
-use Rattle.std.proofs.Common.{Bool, true, false, not, sym, ap, Option}
+use Rattle.std.proofs.Common.{Bool, false, not, sym, ap, Option}
 use mathlib.Core.Bool.{true≢false}
 use Rattle.std.specs.Prelude.{codes, is_some}
 use Rattle.std.specs.Option.{option_map_or}

@@ -1,5 +1,4 @@
-use Rattle.std.proofs.Common.{rules, ◌≡◌, ◌+◌, ◌<◌, ◌≤◌, ℕ, List, arith, length, get_or, true}
-use Rattle.rt_query.specs.Queries.{Query}
+use Rattle.std.proofs.Common.{rules, ◌≡◌, ◌<◌, List, arith, length, get_or, true}
 use Rattle.rt_cache.specs.declared.window.Window.{Window}
 use Rattle.rt_cache.specs.inside.ByPath.{query_of, is_other_supplier}
 use Rattle.rt_cache.proofs.Apart.{up_to_supplier}

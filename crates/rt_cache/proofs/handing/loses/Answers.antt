@@ -36,4 +36,4 @@ returns c = λ kept cut.
     let filtered : is_filtered c.args.form.now ≡ true = search rules in
     let stays : c.loses_region.result ≡ false = search rules in
     let region : is_region_lost kept (pairs_of c.args.regions.now) c.args.form.now ≡ false = sym (c.loses_region.ensures kept cut) ∙ stays in
-    c.loses_window.ensures ∙ sym (λ i. yes i && (filtered i && (region i || is_window_lost (window_queries c.args.windows.now) (staying_of (lent_queries c.args.those.now) c.args.among (window_queries c.args.windows.now)) c.args.form.now)))
+    c.loses_window.ensures (lent_queries c.args.those.now) c.args.among c.requires.staying ∙ sym (λ i. yes i && (filtered i && (region i || is_window_lost (window_queries c.args.windows.now) (staying_of (lent_queries c.args.those.now) c.args.among (window_queries c.args.windows.now)) c.args.form.now)))

@@ -5,8 +5,8 @@ use Rattle.rt_cache.specs.declared.spans.Span.{Span}
 use Rattle.rt_cache.proofs.InSpans.{each_in_order}
 use Rattle.rt_cache.proofs.recover.spans_ended.Goals as goal
 
-pub spans_between-requires-2 : goal.spans_between-requires-2
-spans_between-requires-2 c =
+pub places_beside-requires-2 : goal.places_beside-requires-2
+places_beside-requires-2 c =
     let fits : Span → Type 0 = λ s. (s.start ≤ s.end) × (s.end ≤ length c.args.regions.now) in
     record {
       within = subst (λ (spans : List Span). All fits spans) (sym c.in_ok-append.ensures.items)

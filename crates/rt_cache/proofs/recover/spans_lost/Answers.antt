@@ -9,7 +9,7 @@ if_ok_both (Err e) P Q R p q f = tt
 
 pub returns-clause-lost : goal.returns-clause-lost
 returns-clause-lost c =
-    if_ok_both c.spans_between.result _ _ _ c.spans_between.ensures.order c.spans_between.ensures.places (λ gaps order places. (
+    if_ok_both c.places_beside.result _ _ _ c.places_beside.ensures.order c.places_beside.ensures.places (λ gaps order places. (
       order,
       λ k d lt. sym (places k lt ∙ ap not (c.in_ok-spans.ensures.places k d lt)),
     ))

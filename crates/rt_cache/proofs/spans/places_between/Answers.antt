@@ -20,4 +20,5 @@ loop-span-preserved c =
           c.push_places.new.spans.items c.in_ok-push_places.ensures.places k (λ le. omega (arith, most, lt, le)),
       λ k le. back_more c.loop-span.gaps.items c.args.spans.now n c.loop-span.place span c.requires.rising within at inv.1 inv.2 inv.3
           k (omega (arith, most, le)) (omega (arith, most, le)),
+      c.in_ok-push_places.ensures.filled inv.4,
     )

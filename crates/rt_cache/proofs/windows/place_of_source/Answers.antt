@@ -1,4 +1,4 @@
-use Rattle.std.proofs.Common.{rules, ◌≡◌, ◌∙◌, ℕ, ◌+◌, ◌<◌, ◌≤◌, arith, length, get_or, ap, sym, subst, List, Some, None, true, false, is_some, ◌&&◌, Bool, IfSome, IfNone}
+use Rattle.std.proofs.Common.{rules, ◌≡◌, ◌∙◌, ℕ, ◌+◌, ◌<◌, ◌≤◌, length, get_or, ap, sym, subst, List, Some, None, true, false, is_some, ◌&&◌, Bool, IfSome, IfNone}
 use Rattle.std.specs.FinMap as map_of
 use Rattle.std.specs.List.{find, All}
 use Rattle.rt_tree.specs.PathTree.{Path, path_eq, path_eq-same}

@@ -1,11 +1,11 @@
-use Rattle.std.proofs.Common.{rules, ◌∙◌, ◌≤◌, ap, sym, subst, length, not, List}
+use Rattle.std.proofs.Common.{rules, ◌∙◌, ◌≤◌, ap, sym, subst, not, List}
 use Rattle.std.proofs.lemmas.List.Sorted.{IsNonDecreasingBy-from_sort_by_key, All-permutation, list_any-IsPermutation}
 use Rattle.std.specs.List.{All}
 use Rattle.std.specs.List.Sorted.{IsNonDecreasingBy}
 use Rattle.rt_cache.specs.declared.spans.Span.{Span}
 use Rattle.rt_cache.specs.inside.Spans.{has_place, have_place}
 use Rattle.rt_cache.proofs.Parts.{if_ok}
-use Rattle.rt_cache.proofs.recover.spans_between.Goals as goal
+use Rattle.rt_cache.proofs.spans.places_beside.Goals as goal
 
 pub places_between-requires-clause-rising : goal.places_between-requires-clause-rising
 places_between-requires-clause-rising c =
@@ -14,8 +14,8 @@ places_between-requires-clause-rising c =
 
 pub places_between-requires-clause-within : goal.places_between-requires-clause-within
 places_between-requires-clause-within c =
-    subst (λ (spans : List Span). All (λ (s : Span). (s.start ≤ s.end) × (s.end ≤ length c.args.regions.now)) spans) (sym c.deref.ensures.value)
-    (All-permutation (λ (s : Span). (s.start ≤ s.end) × (s.end ≤ length c.args.regions.now)) c.args.spans.items c.sort_unstable_by_key.new.self.items
+    subst (λ (spans : List Span). All (λ (s : Span). (s.start ≤ s.end) × (s.end ≤ c.args.end)) spans) (sym c.deref.ensures.value)
+    (All-permutation (λ (s : Span). (s.start ≤ s.end) × (s.end ≤ c.args.end)) c.args.spans.items c.sort_unstable_by_key.new.self.items
     c.sort_unstable_by_key.ensures.permutation c.requires.within)
 
 pub returns-clause-places : goal.returns-clause-places
