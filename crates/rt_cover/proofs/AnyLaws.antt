@@ -8,6 +8,15 @@ or_assoc : (a b c : Bool) → ((a || b) || c) ≡ (a || (b || c))
 or_assoc true b c = refl
 or_assoc false b c = refl
 
+pub or_no : (b : Bool) → b ≡ (b || false)
+or_no true = refl
+or_no false = refl
+
+-- whether it is so of the first
+pub any_first : {X : Type 0} (f : X → Bool) (xs : List X) (d : X) → 0 < length xs → f (get_or xs 0 d) ≡ list_any f (take 1 xs)
+any_first f [] d lt = absurd (omega (arith, lt))
+any_first f (x ∷ xs) d lt = or_no (f x)
+
 -- one more of those that are left is told of
 pub any_at : {X : Type 0} (f : X → Bool) (done new all : Bool) (xs : List X) (i : ℕ) (d : X)
     → i < length xs → new ≡ (done || f (get_or xs i d))
@@ -35,8 +44,4 @@ any_front f done new all xs n told inv =
 -- all are told of
 pub any_done : {X : Type 0} (f : X → Bool) (done all : Bool) (xs : List X) → length xs ≡ 0 → (done || list_any f xs) ≡ all → done ≡ all
 any_done f done all [] none inv = or_no done ∙ inv
-  where
-    or_no : (b : Bool) → b ≡ (b || false)
-    or_no true = refl
-    or_no false = refl
 any_done f done all (x ∷ xs) none inv = absurd (omega (arith, none))

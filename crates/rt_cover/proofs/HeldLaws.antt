@@ -262,6 +262,11 @@ begins_one : (ends : Registered → Bool) (ls : List Registered) → Rise ls →
     → begins_at ends ls p l.0 ≡ ((not (ends l) && not (is_replaced ends ls l)) && p l.0)
 begins_one ends ls rise p l m = ap (λ o. option_map_or (λ (x : Registered). (not (ends x) && not (is_replaced ends ls x)) && p l.0) o false) (find_one (λ (x : Registered). x.0) ls l rise m)
 
+-- none of a number begins where no listener has it
+pub none_at : (ended : ℕ → Bool) (ls : List Registered) (p : ℕ → Bool) (n : ℕ) → None ≡ find (λ (l : Registered). l.0 == n) ls
+    → begins_at (λ (l : Registered). ended l.0) ls p n ≡ false
+none_at ended ls p n none = sym (ap (λ (o : Option Registered). option_map_or (λ l. (not (ended l.0) && not (is_replaced (λ (m : Registered). ended m.0) ls l)) && p n) o false) none)
+
 -- for none whose listener ends
 pub none_begin : (ended : ℕ → Bool) (ls : List Registered) (p : ℕ → Bool) (ns : List ℕ) → list_any (λ m. not (ended m)) ns ≡ false
     → list_any (begins_at (λ (l : Registered). ended l.0) ls p) ns ≡ false

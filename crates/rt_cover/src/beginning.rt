@@ -1,8 +1,8 @@
 // For whom listens start once others are lost: looked for under the paths of plain ones, and at those of
 // others.
-ghost use Rattle.std.specs.Prelude.{◌≡◌, ◌<◌, ◌≤◌, ◌||◌, ◌&&◌, true, false, not, ℕ, Bool, length, OnOk, IfOk};
-ghost use Rattle.std.specs.Prelude.{slice_index_or, take, drop};
-ghost use Rattle.std.specs.List.{list_any, All, AllPairs};
+ghost use Rattle.std.specs.Prelude.{◌≡◌, ◌<◌, ◌≤◌, ◌||◌, ◌&&◌, ◌==◌, true, false, not, ℕ, Bool, length, OnOk, IfOk};
+ghost use Rattle.std.specs.Prelude.{slice_index_or, take, drop, Some, IfSome};
+ghost use Rattle.std.specs.List.{find, list_any, All, AllPairs};
 ghost use Rattle.std.specs.List.Sorted.{IsSorted};
 ghost use Rattle.std.specs.Option.{option_map_or};
 ghost use Rattle.rt_query.specs.Queries.{is_filtered};
@@ -31,21 +31,43 @@ use std::alloc::{AllocError, Global};
 fn begins<E: Ending>(
     listeners: &Listeners,
     ending: &E,
-    widest: &Widest<'_>,
+    widest: Option<&Widest<'_>>,
     listener: &Listener,
 ) -> bool
     requires forms { All (λ l. form l.1 ≡ l.1) listeners.now }
     requires own { form listener.now.1 ≡ listener.now.1 }
-    requires widest { IsOfPath (E.ended ending.now) listeners.now
-        widest.now.path.now widest.now.entries.now widest.now.places.now }
+    requires widest { IfSome widest (λ w. IsOfPath (E.ended ending.now) listeners.now
+        w.now.path.now w.now.entries.now w.now.places.now) }
     ensures { result ≡ (not (E.ended ending.now listener.now.0)
         && not (is_replaced (by_number (E.ended ending.now)) listeners.now listener.now)) }
 {
     !ending.ends(listener.number()) && !is_behind(listeners, ending, widest, listener)
 }
 
-// The number again, where a listen starts for its listener.
+// The number again, where a listen starts for its listener, which is this one.
 fn begun<E: Ending>(
+    listeners: &Listeners,
+    ending: &E,
+    widest: Option<&Widest<'_>>,
+    listener: &Listener,
+    number: u64,
+) -> Option<u64>
+    requires forms { All (λ l. form l.1 ≡ l.1) listeners.now }
+    requires there { find (λ l. l.0 == number) listeners.now ≡ Some listener.now }
+    requires widest { IfSome widest (λ w. IsOfPath (E.ended ending.now) listeners.now
+        w.now.path.now w.now.entries.now w.now.places.now) }
+    ensures { (p : ℕ → Bool) → option_map_or p result false
+        ≡ begins_at (by_number (E.ended ending.now)) listeners.now p number }
+{
+    if begins(listeners, ending, widest, listener) {
+        Some(number)
+    } else {
+        None
+    }
+}
+
+// The same of the listener of that number, which is looked for.
+fn begun_at<E: Ending>(
     listeners: &Listeners,
     ending: &E,
     widest: &Widest<'_>,
@@ -61,11 +83,7 @@ fn begun<E: Ending>(
     let Some(listener) = listeners.at(number) else {
         return None;
     };
-    if begins(listeners, ending, widest, listener) {
-        Some(number)
-    } else {
-        None
-    }
+    begun(listeners, ending, Some(widest), listener, number)
 }
 
 // Adds the numbers of those of some listeners that begin.
@@ -85,7 +103,7 @@ fn add_begun<E: Ending>(
         || list_any (begins_at (by_number (E.ended ending.now)) listeners.now p) beside.now)) }
 {
     for number in beside {
-        add_some(numbers, begun(listeners, ending, widest, *number))?;
+        add_some(numbers, begun_at(listeners, ending, widest, *number))?;
     }
     Ok(())
 }
@@ -117,30 +135,17 @@ fn add_beside<E: Ending>(
     add_begun(numbers, listeners, ending, &widest, beside)
 }
 
-// The path of the first of some listeners, or else this one.
-fn path_of_first<'a>(listeners: &'a Listeners, numbers: &[u64], path: &'a Path) -> &'a Path
-    requires { AllPairs (λ l m. l.0 < m.0) listeners.now }
-{
-    let Some(number) = numbers.first() else {
-        return path;
-    };
-    match listeners.at(*number) {
-        Some(listener) => listener.form().path(),
-        None => path,
-    }
-}
-
-// Whether the listener of that number has the path.
+// Whether the listener of that number has a range of the path.
 fn is_at(listeners: &Listeners, path: &Path, number: u64) -> bool
     requires { AllPairs (λ l m. l.0 < m.0) listeners.now }
 {
     match listeners.at(number) {
-        Some(listener) => listener.form().path() == path,
+        Some(listener) => listener.form().is_filtered() && listener.form().path() == path,
         None => false,
     }
 }
 
-// How many listeners come before the first that has another path.
+// How many listeners come before the first that has no range of the path.
 fn count_at(listeners: &Listeners, path: &Path, numbers: &[u64]) -> usize
     requires { AllPairs (λ l m. l.0 < m.0) listeners.now }
     ensures { result ≤ length numbers.now }
@@ -153,16 +158,15 @@ fn count_at(listeners: &Listeners, path: &Path, numbers: &[u64]) -> usize
     numbers.len()
 }
 
-// How many listeners stand together with the first, by the path.
-fn count_beside(listeners: &Listeners, path: &Path, numbers: &[u64]) -> usize
-    requires rise { AllPairs (λ l m. l.0 < m.0) listeners.now }
-    ensures within { result ≤ length numbers.now }
-    ensures some { 0 < length numbers.now → 0 < result }
+// How many others stand together with the first, whose form this is: ranges of one path.
+fn count_beside(listeners: &Listeners, form: &Query, others: &[u64]) -> usize
+    requires { AllPairs (λ l m. l.0 < m.0) listeners.now }
+    ensures { result ≤ length others.now }
 {
-    match numbers.split_first() {
-        Some((_, others)) => count_at(listeners, path, others) + 1,
-        None => 0,
+    if !form.is_filtered() {
+        return 0;
     }
+    count_at(listeners, form.path(), others)
 }
 
 // Those behind the first so many.
@@ -173,13 +177,49 @@ fn behind<T>(items: &[T], count: usize) -> &[T]
     &items[count..]
 }
 
-// Adds the numbers of those of some listeners that begin, path by path: those of one path mostly stand
-// together.
-fn add_by_path<E: Ending>(
+// Adds the numbers of the first of some listeners, and of the others that stand together with it, if they
+// begin; how many listeners these are. One alone is asked at once, and of several the widest forms of their
+// path.
+fn add_next<E: Ending>(
     numbers: &mut Vec<u64>,
     listeners: &Listeners,
     ending: &E,
-    root: &Path,
+    supplied: &[u64],
+) -> Result<usize, AllocError>
+    requires rise { AllPairs (λ l m. l.0 < m.0) listeners.now }
+    requires forms { All (λ l. form l.1 ≡ l.1) listeners.now }
+    requires some { 0 < length supplied.now }
+    ensures some { IfOk result (λ count. 0 < count) }
+    ensures within { IfOk result (λ count. count ≤ length supplied.now) }
+    ensures numbers { IfOk result (λ count. (p : ℕ → Bool) → list_any p numbers.new.items
+        ≡ (list_any p numbers.old.items || list_any
+        (begins_at (by_number (E.ended ending.now)) listeners.now p) (take count supplied.now))) }
+{
+    let first = supplied[0];
+    let Some(listener) = listeners.at(first) else {
+        return Ok(1);
+    };
+    let others = count_beside(listeners, listener.form(), behind(supplied, 1));
+    if others == 0 {
+        add_some(numbers, begun(listeners, ending, None, listener, first))?;
+        return Ok(1);
+    }
+    let count = others + 1;
+    add_beside(
+        numbers,
+        listeners,
+        ending,
+        listener.form().path(),
+        &supplied[..count],
+    )?;
+    Ok(count)
+}
+
+// Adds the numbers of those of some listeners that begin. Ranges of one path mostly stand together.
+fn add_all<E: Ending>(
+    numbers: &mut Vec<u64>,
+    listeners: &Listeners,
+    ending: &E,
     supplied: &[u64],
 ) -> Result<(), AllocError>
     requires rise { AllPairs (λ l m. l.0 < m.0) listeners.now }
@@ -190,9 +230,7 @@ fn add_by_path<E: Ending>(
 {
     let mut rest = supplied;
     while !rest.is_empty() {
-        let at = path_of_first(listeners, rest, root);
-        let count = count_beside(listeners, at, rest);
-        add_beside(numbers, listeners, ending, at, &rest[..count])?;
+        let count = add_next(numbers, listeners, ending, rest)?;
         rest = behind(rest, count);
     }
     Ok(())
@@ -368,7 +406,6 @@ pub(crate) fn numbers_begun<E: Ending>(
     let ordered = in_order(alloc, lost)?;
     let candidates = supplied(alloc, listeners, &ordered)?;
     let mut numbers = Vec::new(alloc);
-    let root = Path::root(alloc);
-    add_by_path(&mut numbers, listeners, ending, &root, &candidates)?;
+    add_all(&mut numbers, listeners, ending, &candidates)?;
     Ok(numbers)
 }

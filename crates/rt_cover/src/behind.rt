@@ -1,6 +1,6 @@
 // What comes before a listener, of those that are left, and who supplies a query: looked for at its path and
 // at those above.
-ghost use Rattle.std.specs.Prelude.{◌≡◌, ◌<◌, ◌&&◌, ◌||◌, true, false, not, nat_lt, length};
+ghost use Rattle.std.specs.Prelude.{◌≡◌, ◌<◌, ◌&&◌, ◌||◌, true, false, not, nat_lt, length, IfSome};
 ghost use Rattle.std.specs.List.{list_any, All, AllPairs};
 ghost use Rattle.rt_tree.specs.PathTree.{path_eq};
 ghost use Rattle.rt_tree.specs.Assignments.{is_at_or_above};
@@ -134,18 +134,21 @@ fn has_wider<E: Ending>(listeners: &Listeners, ending: &E, query: &Query) -> boo
     has_wider_among(listeners.filtered_at(query.path().keys()), ending, query)
 }
 
-// The same, by the widest ones, where they are those of the query's path.
+// The same, by the widest ones, where those of the query's path are given.
 fn has_wider_beside<E: Ending>(
     listeners: &Listeners,
     ending: &E,
-    widest: &Widest<'_>,
+    widest: Option<&Widest<'_>>,
     query: &Query,
 ) -> bool
-    requires { IsOfPath (E.ended ending.now) listeners.now
-        widest.now.path.now widest.now.entries.now widest.now.places.now }
+    requires { IfSome widest (λ w. IsOfPath (E.ended ending.now) listeners.now
+        w.now.path.now w.now.entries.now w.now.places.now) }
     ensures { result ≡ list_any (λ l. not (query_eq l.1 query.now) && takes_in l.1 query.now)
         (left (by_number (E.ended ending.now)) listeners.now) }
 {
+    let Some(widest) = widest else {
+        return has_wider(listeners, ending, query);
+    };
     if widest.path == query.path() {
         has_wider_in_front(widest.entries, widest.places, query)
     } else {
@@ -157,12 +160,12 @@ fn has_wider_beside<E: Ending>(
 fn is_supplied_there<E: Ending>(
     listeners: &Listeners,
     ending: &E,
-    widest: &Widest<'_>,
+    widest: Option<&Widest<'_>>,
     query: &Query,
 ) -> bool
     requires forms { All (λ l. form l.1 ≡ l.1) listeners.now }
-    requires widest { IsOfPath (E.ended ending.now) listeners.now
-        widest.now.path.now widest.now.entries.now widest.now.places.now }
+    requires widest { IfSome widest (λ w. IsOfPath (E.ended ending.now) listeners.now
+        w.now.path.now w.now.entries.now w.now.places.now) }
     ensures { result
         ≡ (list_any (λ l. path_eq (l.1).path query.now.path && not (is_filtered l.1))
         (left (by_number (E.ended ending.now)) listeners.now)
@@ -177,13 +180,13 @@ fn is_supplied_there<E: Ending>(
 fn is_supplied<E: Ending>(
     listeners: &Listeners,
     ending: &E,
-    widest: &Widest<'_>,
+    widest: Option<&Widest<'_>>,
     query: &Query,
 ) -> bool
     requires forms { All (λ l. form l.1 ≡ l.1) listeners.now }
     requires own { form query.now ≡ query.now }
-    requires widest { IsOfPath (E.ended ending.now) listeners.now
-        widest.now.path.now widest.now.entries.now widest.now.places.now }
+    requires widest { IfSome widest (λ w. IsOfPath (E.ended ending.now) listeners.now
+        w.now.path.now w.now.entries.now w.now.places.now) }
     ensures { result ≡ list_any (λ l. not (query_eq l.1 query.now) && does_supply l.1 query.now)
         (left (by_number (E.ended ending.now)) listeners.now) }
 {
@@ -195,13 +198,13 @@ fn is_supplied<E: Ending>(
 pub(crate) fn is_behind<E: Ending>(
     listeners: &Listeners,
     ending: &E,
-    widest: &Widest<'_>,
+    widest: Option<&Widest<'_>>,
     listener: &Listener,
 ) -> bool
     requires forms { All (λ l. form l.1 ≡ l.1) listeners.now }
     requires own { form listener.now.1 ≡ listener.now.1 }
-    requires widest { IsOfPath (E.ended ending.now) listeners.now
-        widest.now.path.now widest.now.entries.now widest.now.places.now }
+    requires widest { IfSome widest (λ w. IsOfPath (E.ended ending.now) listeners.now
+        w.now.path.now w.now.entries.now w.now.places.now) }
     ensures { result ≡ is_replaced (by_number (E.ended ending.now)) listeners.now listener.now }
 {
     is_seen(listeners, ending, listener) || is_supplied(listeners, ending, widest, listener.form())

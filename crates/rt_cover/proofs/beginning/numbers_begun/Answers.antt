@@ -19,7 +19,7 @@ returns g c = λ p.
     let ends : Registered → Bool = by_number (g.E.Ending.ended c.args.ending.now) in
     let ls : List Registered = c.args.listeners.now in
     let begins : ℕ → Bool = begins_at ends ls p in
-    c.in_ok-add_by_path.ensures p
+    c.in_ok-add_all.ensures p
     ∙ ap (λ (ns : List ℕ). list_any p ns || list_any begins c.deref-2.result.now) c.new-numbers.ensures.items
     ∙ ap (list_any begins) c.deref-2.ensures.value
     ∙ c.in_ok-candidates.ensures begins

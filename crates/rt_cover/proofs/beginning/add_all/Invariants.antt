@@ -1,7 +1,7 @@
 use Rattle.std.proofs.Common.{◌≡◌, ◌||◌, ℕ, Bool, length}
 use Rattle.std.specs.List.{list_any}
 use Rattle.rt_cover.specs.inside.Endings.{by_number, begins_at}
-use Rattle.rt_cover.proofs.beginning.add_by_path.Given as goal
+use Rattle.rt_cover.proofs.beginning.add_all.Given as goal
 
 abbrev pub invariant-loop-rest : goal.invariant-loop-rest
 invariant-loop-rest g l = (p : ℕ → Bool)

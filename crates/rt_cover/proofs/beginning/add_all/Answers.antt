@@ -3,7 +3,7 @@ use Rattle.std.specs.List.{list_any}
 use Rattle.std.proofs.lemmas.List.{length-drop}
 use Rattle.rt_cover.specs.inside.Endings.{by_number, begins_at}
 use Rattle.rt_cover.proofs.AnyLaws.{any_front, any_done}
-use Rattle.rt_cover.proofs.beginning.add_by_path.Goals as goal
+use Rattle.rt_cover.proofs.beginning.add_all.Goals as goal
 
 pub loop-rest-init : goal.loop-rest-init
 loop-rest-init g c = λ p. refl
@@ -11,10 +11,9 @@ loop-rest-init g c = λ p. refl
 pub loop-rest-smaller : goal.loop-rest-smaller
 loop-rest-smaller g c =
     let rest : List ℕ = c.loop-rest.rest.now in
-    let n : ℕ = c.count_beside-count.result in
-    let some : 0 < length rest = search rules in
-    let less : 0 < n = c.count_beside-count.ensures.some some in
-    let within : n ≤ length rest = c.count_beside-count.ensures.within in
+    let n : ℕ = c.in_ok-count.count in
+    let less : 0 < n = c.in_ok-count.ensures.some in
+    let within : n ≤ length rest = c.in_ok-count.ensures.within in
     let left : length c.behind-rest.result.now ≡ length (drop n rest) = ap length c.behind-rest.ensures in
     omega (arith, less, within, left, length-drop n rest)
 
@@ -23,9 +22,9 @@ loop-rest-preserved g c = λ p.
     let begins : ℕ → Bool = begins_at (by_number (g.E.Ending.ended c.args.ending.now)) c.args.listeners.now p in
     let old : Bool = list_any p c.loop-rest.numbers.items in
     let all : Bool = list_any p c.args.numbers.now.items || list_any begins c.args.supplied.now in
-    subst (λ (xs : List ℕ). (list_any p c.add_beside.new.numbers.items || list_any begins xs) ≡ all) (sym c.behind-rest.ensures)
-    (any_front begins old (list_any p c.add_beside.new.numbers.items) all c.loop-rest.rest.now c.count_beside-count.result
-    (c.in_ok-add_beside.ensures p) (c.loop-rest.invariant p))
+    subst (λ (xs : List ℕ). (list_any p c.add_next.new.numbers.items || list_any begins xs) ≡ all) (sym c.behind-rest.ensures)
+    (any_front begins old (list_any p c.add_next.new.numbers.items) all c.loop-rest.rest.now c.in_ok-count.count
+    (c.in_ok-count.ensures.numbers p) (c.loop-rest.invariant p))
 
 pub returns : goal.returns
 returns g c = λ p.
