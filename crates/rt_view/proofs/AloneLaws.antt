@@ -10,11 +10,10 @@ use Rattle.rt_query.specs.Select.{row_of}
 use Rattle.rt_view.specs.declared.kind.Kind.{Kind}
 use Rattle.rt_view.specs.declared.kind.Kind.TheVariants.{Added, Moved, Changed}
 use Rattle.rt_view.specs.declared.told.Told.{Told}
-use Rattle.rt_view.specs.declared.window.Window.{Window}
 use Rattle.rt_view.specs.Changes.{placed_changes, removals}
 use Rattle.rt_view.specs.inside.Given.{change_of, is_given, row_change}
-use Rattle.rt_view.specs.inside.Windows.{Entries, before, value_at, shown_in}
-use Rattle.rt_view.specs.inside.Kept.{IsWindowOf, NotesAll, changes_to, gone_at, noted_in, removed_of, rows_in_tree}
+use Rattle.rt_view.specs.inside.Windows.{Entries, before, value_at}
+use Rattle.rt_view.specs.inside.Kept.{NotesAll, changes_to, entries_shown, gone_at, noted_in, removed_of, rows_in_tree}
 use Rattle.rt_view.specs.inside.Alone.{told_alone, told_there}
 use Rattle.rt_view.specs.inside.Telling.{given_of, gone_too, told_in, told_too}
 use Rattle.rt_view.proofs.Listed.{IsListed, listed-children, value_at-children}
@@ -43,20 +42,20 @@ either true e = cc
 either false e = refl
 
 -- what a query that isn't filtered shows under a key
-pub plain_value : (q : Query) (u : PathTree) (w : Window) (k : Key) → is_filtered q ≡ false → IsWindowOf q u w → value_at (shown_in w) k ≡ child_of (children_of u) k
-plain_value q u w k plain h = ap (λ (es : Entries). value_at es k) (sym (plain_rows q u w plain h)) ∙ value_at-children q.index u k
+pub plain_value : (q : Query) (u : PathTree) (k : Key) → is_filtered q ≡ false → value_at (entries_shown q u) k ≡ child_of (children_of u) k
+plain_value q u k plain = ap (λ (es : Entries). value_at es k) (sym (plain_rows q u plain)) ∙ value_at-children q.index u k
 
 -- under the key of the child that is put there is that child
-pub alone_now : (q : Query) (t u : PathTree) (w : Window) (k : Key) (v : PathTree) → is_filtered q ≡ false → IsWindowOf q u w → u ≡ put t (k ∷ []) v → value_at (shown_in w) k ≡ non_null v
-alone_now q t u w k v plain h is =
-    plain_value q u w k plain h ∙ ap (λ (x : PathTree). child_of (children_of x) k) is ∙ child_of-put t k k v
+pub alone_now : (q : Query) (t u : PathTree) (k : Key) (v : PathTree) → is_filtered q ≡ false → u ≡ put t (k ∷ []) v → value_at (entries_shown q u) k ≡ non_null v
+alone_now q t u k v plain is =
+    plain_value q u k plain ∙ ap (λ (x : PathTree). child_of (children_of x) k) is ∙ child_of-put t k k v
     ∙ ap (λ b. cond b (non_null v) (child_of (children_of t) k)) (key_eq-same k)
 
 -- and under the others what there was
-pub alone_notes : (q : Query) (t u : PathTree) (w : Window) (k : Key) (v : PathTree) → is_filtered q ≡ false → IsWindowOf q u w → u ≡ put t (k ∷ []) v → NotesAll q.index (k ∷ []) t w
-alone_notes q t u w k v plain h is j e = (
+pub alone_notes : (q : Query) (t u : PathTree) (k : Key) (v : PathTree) → is_filtered q ≡ false → u ≡ put t (k ∷ []) v → NotesAll q.index (k ∷ []) t (entries_shown q u)
+alone_notes q t u k v plain is j e = (
   refl,
-  plain_value q u w j plain h ∙ ap (λ (x : PathTree). child_of (children_of x) j) is ∙ child_of-put t k j v
+  plain_value q u j plain ∙ ap (λ (x : PathTree). child_of (children_of x) j) is ∙ child_of-put t k j v
       ∙ ap (λ b. cond b (non_null v) (child_of (children_of t) j)) (either (key_eq k j) e) ∙ sym (value_at-children q.index t j),
 )
 
@@ -80,11 +79,9 @@ told_noted index k shown (Some v) o =
     λ i. one Added i ++ one Moved i ++ one Changed i
 
 -- is what is told of all rows, where nothing differs under the other keys
-pub alone_all : (q : Query) (t : PathTree) (w : Window) (k : Key) (o n : Option PathTree) → IsListed q.index (shown_in w) → NotesAll q.index (k ∷ []) t w
-    → child_of (children_of t) k ≡ o → value_at (shown_in w) k ≡ n → told_alone q.index k o n (shown_in w) ≡ changes_to q.index t w
-alone_all q t w k o n listed notes was now =
-    let index = q.index in
-    let shown = shown_in w in
+pub alone_all : (index : Index) (t : PathTree) (shown : Entries) (k : Key) (o n : Option PathTree) → IsListed index shown → NotesAll index (k ∷ []) t shown
+    → child_of (children_of t) k ≡ o → value_at shown k ≡ n → told_alone index k o n shown ≡ changes_to index t shown
+alone_all index t shown k o n listed notes was now =
     let rows = rows_in_tree index t in
     let removed : map removed_of (gone_too index k (gone_at n o) []) ≡ removals (map row_of rows) (map row_of shown) =
     (λ i. map removed_of (gone_too index k (gone_at (sym now i) (sym (value_at-children index t k ∙ was) i)) (sym (gone_nothing shown rows) i)))
@@ -95,6 +92,6 @@ alone_all q t w k o n listed notes was now =
     λ kind. ap (given_of kind index) told ∙ given_of-told kind index t shown (noted_in (k ∷ []) shown) ∙ given-all kind index t (k ∷ []) shown listed notes in
     let each : map removed_of (gone_too index k (gone_at n o) []) ++ given_of Added index (told_too index k o shown n [])
     ++ given_of Moved index (told_too index k o shown n []) ++ given_of Changed index (told_too index k o shown n [])
-    ≡ changes_to index t w =
+    ≡ changes_to index t shown =
     λ i. removed i ++ all Added i ++ all Moved i ++ all Changed i in
     told_noted index k shown n o ∙ each

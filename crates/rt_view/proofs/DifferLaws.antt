@@ -21,10 +21,10 @@ use Rattle.rt_view.specs.inside.Differences.{come, differing, emptied, gone, is_
 use Rattle.rt_view.specs.inside.Kept.{IsWindowOf, own_tree}
 use Rattle.rt_view.specs.inside.Windows.{Entries, shown_in}
 use Rattle.rt_view.proofs.CrossLaws.{shown_known}
-use Rattle.rt_view.proofs.Listed.{EachOnce, each_once}
+use Rattle.rt_view.proofs.Listed.{EachOnce, each_once, listed-window}
 use Rattle.rt_view.proofs.ReplayLaws.{row_at-cons}
 use Rattle.rt_view.proofs.TouchLaws.{child_fits, child_of-put}
-use Rattle.rt_view.proofs.TreeLaws.{filtered_leaf, filtered_own, leaf_of-put, listed-window}
+use Rattle.rt_view.proofs.TreeLaws.{filtered_leaf, filtered_own, leaf_of-put}
 
 abbrev Children : Type 0
 Children = List (Key × PathTree)

@@ -1,13 +1,14 @@
 -- Entries of children in order: each child stands at its own entry, and no key stands twice. What such a list holds under each
 -- key says all of it.
 use Rattle.std.specs.Prelude.{T}
-use Rattle.std.proofs.Common.{◌≡◌, Bool, true, false, cond, List, [], ◌∷◌, ◌++◌, map, refl, sym, ap, subst, ◌∙◌, Option, Some, None}
+use Rattle.std.proofs.Common.{◌≡◌, ◌-◌, Bool, true, false, cond, List, [], ◌∷◌, ◌++◌, append-nil, drop, length, map, take, refl, sym, ap, subst, ◌∙◌, Option, Some, None}
 use Rattle.std.specs.declared.cmp.Ordering.TheVariants.{Less, Equal, Greater}
 use Rattle.std.specs.Ordering.{is_eq, eq_by_cmp}
 use Rattle.std.specs.Cmp.{tied_itself}
 use Rattle.std.specs.Map.{keys_of}
 use Rattle.std.specs.List.{AllByRecursion, filter}
 use Rattle.std.specs.List.Sorted.{IsStrictlySortedBy}
+use Rattle.std.proofs.lemmas.List.{take-append-drop}
 use Rattle.std.specs.FinMap as map_of
 use Rattle.std.specs.FinMap.Entries.{by_order, find, is_sorted, is_sorted-put, is_sorted-where_key, find-put, same_entries}
 use Rattle.rt_tree.specs.PathTree.{Key, PathTree, key_cmp, key_eq, key_eq-is, key_eq-same, key_eq-symm, child_of}
@@ -19,12 +20,13 @@ use Rattle.rt_order.specs.laws.EntryOrder.{entry_cmp_total, entry_cmp-IsAntisymm
 use Rattle.rt_query.specs.declared.limit.Limit.{Limit}
 use Rattle.rt_query.specs.declared.limit.Limit.TheVariants.{First, Last}
 use Rattle.rt_query.specs.Queries.{Query}
-use Rattle.rt_query.specs.Select.{sorted_by, row_of}
-use Rattle.rt_view.specs.inside.Windows.{Entries, IsWindow, joined, value_at}
+use Rattle.rt_query.specs.Select.{limited, sorted_by, row_of}
+use Rattle.rt_view.specs.inside.Windows.{Entries, IsWindow, joined, shown_in, value_at}
 pub use Rattle.rt_view.specs.inside.Windows.{IsListed, Once, Own}
-use Rattle.rt_view.specs.inside.Kept.{in_order}
+use Rattle.rt_view.specs.inside.Kept.{IsWindowOf, entries_shown, in_order}
 use Rattle.rt_view.proofs.ReplayLaws.{row_at-cons}
-use Rattle.rt_view.proofs.WindowLaws.{value_at-skip, value_at-puts, same_entry}
+use Rattle.rt_view.specs.declared.window.Window.{Window}
+use Rattle.rt_view.proofs.WindowLaws.{parts_rise, value_at-skip, value_at-puts, same_entry}
 
 abbrev puts : Entry → PathTree → Entries → Entries
 puts e v es = map_of.put entry_cmp e v es
@@ -281,3 +283,25 @@ listed-shown index limit s r all w h up =
     at None own once up_to = (record { rises = up; own = (own-left index s r own).0; once = (once-left s r once).0 }, λ k v e. up_to k v (in_left s r k v e))
     at (Some (First n)) own once up_to = (record { rises = up; own = (own-left index s r own).0; once = (once-left s r once).0 }, λ k v e. up_to k v (in_left s r k v e))
     at (Some (Last n)) own once up_to = (record { rises = up; own = (own-left index r s own).1; once = (once-left r s once).1 }, λ k v e. up_to k v (in_right r s k v once e))
+
+-- those that a limit doesn't show
+abbrev left_out : Option Limit → Entries → Entries
+left_out None es = []
+left_out (Some (First n)) es = drop n es
+left_out (Some (Last n)) es = take (length es - n) es
+
+both_parts : (limit : Option Limit) (es : Entries) → joined limit (limited limit es) (left_out limit es) ≡ es
+both_parts None es = append-nil es
+both_parts (Some (First n)) es = take-append-drop n es
+both_parts (Some (Last n)) es = take-append-drop (length es - n) es
+
+-- what a query shows is listed
+pub listed-entries : (q : Query) (t : PathTree) → IsListed q.index (entries_shown q t)
+listed-entries q t =
+    let all = in_order q (children_of t) in
+    let listed = listed-in_order q t in
+    let cut : IsWindow q.limit (entries_shown q t) (left_out q.limit all) all = record { rises = listed.rises; whole = both_parts q.limit all; cut = refl } in
+    (listed-shown q.index q.limit _ _ all cut listed (parts_rise q.limit _ _ all cut).0).0
+
+pub listed-window : (q : Query) (t : PathTree) (w : Window) → IsWindowOf q t w → IsListed q.index (shown_in w)
+listed-window q t w h = subst (IsListed q.index) h.cut.cut (listed-entries q t)

@@ -201,10 +201,10 @@ keeps_all before after es h =
     }
 
 -- what was shown of a tree
-pub are_seen : (index : Index) (t : PathTree) (w : Window) (before : Entries) (seen : List Seen) → AllSeen before (shown_in w) seen
-    → ((k : Key) → value_at before k ≡ child_of (children_of t) k) → AreSeen index t w seen
-are_seen index t w before seen h of_tree = record {
-  each = All-weaker (IsSeenOf before (shown_in w)) (IsSeen t (shown_in w)) (λ s e. (ap (λ (y : Seen). y.old) e ∙ of_tree s.key, ap (λ (y : Seen). y.new) e)) seen h.each;
+pub are_seen : (index : Index) (t : PathTree) (before after : Entries) (seen : List Seen) → AllSeen before after seen
+    → ((k : Key) → value_at before k ≡ child_of (children_of t) k) → AreSeen index t after seen
+are_seen index t before after seen h of_tree = record {
+  each = All-weaker (IsSeenOf before after) (IsSeen t after) (λ s e. (ap (λ (y : Seen). y.old) e ∙ of_tree s.key, ap (λ (y : Seen). y.new) e)) seen h.each;
   notes = λ k e. (refl, (h.notes k e).1 ∙ of_tree k ∙ sym (value_at-children index t k));
 }
 

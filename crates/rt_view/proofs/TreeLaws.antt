@@ -11,7 +11,6 @@ use Rattle.rt_order.specs.declared.index.Index.{Index}
 use Rattle.rt_query.specs.declared.row.Row.{Row}
 use Rattle.rt_query.specs.declared.limit.Limit.{Limit}
 use Rattle.rt_query.specs.Queries.{Query, is_filtered}
-use Rattle.rt_query.specs.Rows.{row_at}
 use Rattle.rt_query.specs.Select.{Shown, row_of, rows_of, select, as_children, tree_by, tree_of}
 use Rattle.rt_query.specs.inside.ShownView.{IsShown}
 use Rattle.rt_query.specs.QueryEq.{shown_eq, row_eq}
@@ -21,26 +20,14 @@ use Rattle.rt_query.proofs.ShownLaws.{child_of-as_children, row_at-tree}
 use Rattle.rt_query.proofs.RowLaws.{shown_filtered, shown_whole}
 use Rattle.rt_view.specs.declared.change.Change.{Change}
 use Rattle.rt_view.specs.declared.change.Change.TheVariants.{Value}
-use Rattle.rt_view.specs.declared.window.Window.{Window}
 use Rattle.rt_view.specs.Changes.{row_changes, changes, replay, by_keys}
-use Rattle.rt_view.specs.inside.Windows.{Entries, value_at, rest_in, shown_in}
-use Rattle.rt_view.specs.inside.Kept.{IsWindowOf, Notes, own_tree, SetsChild, SetsNoted, is_noted, leaf_in, rows_in_tree, shown_by}
+use Rattle.rt_view.specs.inside.Windows.{Entries, value_at}
+use Rattle.rt_view.specs.inside.Kept.{Notes, changes_to, own_tree, SetsChild, SetsNoted, entries_shown, is_noted, leaf_in, rows_in_tree, shown_by}
 use Rattle.rt_view.proofs.ReplayLaws.{row_at-by_keys, replay-row_changes}
 use Rattle.rt_view.proofs.TurnLaws.{row_changes-same}
-use Rattle.rt_view.proofs.Listed.{IsListed, same_listed, listed-children, value_at-children, listed-in_order, listed-shown}
-use Rattle.rt_view.proofs.WindowLaws.{parts_rise}
+use Rattle.rt_view.proofs.Listed.{IsListed, same_listed, listed-children, value_at-children, listed-entries}
 use Rattle.rt_view.proofs.TellLaws.{note_other, note_own}
 use Rattle.rt_view.proofs.TouchLaws.{child_of-put}
-
--- what a window shows is listed
-pub listed-window : (q : Query) (t : PathTree) (w : Window) → IsWindowOf q t w → IsListed q.index (shown_in w)
-listed-window q t w h =
-    let up = (parts_rise q.limit (shown_in w) (rest_in w) _ h.cut).0 in
-    (listed-shown q.index q.limit (shown_in w) (rest_in w) _ h.cut (listed-in_order q t) up).0
-
--- the rows of a window
-pub select-window : (q : Query) (t : PathTree) (w : Window) → IsWindowOf q t w → select q t ≡ record { leaf = leaf_in q t; rows = map row_of (shown_in w) }
-select-window q t w h = λ i. record { leaf = leaf_in q t; rows = map row_of (h.cut.cut i) }
 
 -- what a query shows is a view
 pub select-shown : (q : Query) (t : PathTree) → IsShown (leaf_in q t) (rows_of q (children_of t)) (tree_of (select q t))
@@ -53,29 +40,28 @@ select-shown q t =
 
 -- ---- read off the tree
 
--- the children of the tree that is shown are those of the window
-pub rows_in_tree-shown : (q : Query) (t : PathTree) (w : Window) → IsWindowOf q t w → rows_in_tree q.index (tree_of (select q t)) ≡ shown_in w
-rows_in_tree-shown q t w h =
+-- the children of the tree that is shown are those that are shown
+pub rows_in_tree-shown : (q : Query) (t : PathTree) → rows_in_tree q.index (tree_of (select q t)) ≡ entries_shown q t
+rows_in_tree-shown q t =
     let tree = tree_of (select q t) in
-    same_listed q.index (rows_in_tree q.index tree) (shown_in w) (listed-children q.index tree) (listed-window q t w h)
-    (λ k. value_at-children q.index tree k ∙ row_at-tree (leaf_in q t) (rows_of q (children_of t)) tree k (select-shown q t) ∙ ap (λ (es : Entries). row_at (map row_of es) k) h.cut.cut)
+    same_listed q.index (rows_in_tree q.index tree) (entries_shown q t) (listed-children q.index tree) (listed-entries q t)
+    (λ k. value_at-children q.index tree k ∙ row_at-tree (leaf_in q t) (rows_of q (children_of t)) tree k (select-shown q t))
 
 leaf_of-tree_by : (leaf : Option LeafValue) (rows : List Row) → leaf_of (tree_by leaf rows) ≡ leaf
 leaf_of-tree_by None rows = leaf_at-object-root (as_children rows)
 leaf_of-tree_by (Some l) rows = leaf_at-of_leaf l [] ∙ ap (λ b. cond b (Some l) None) (path_eq-same [])
 
-pub shown_by-shown : (q : Query) (t : PathTree) (w : Window) → IsWindowOf q t w → shown_by q.index (tree_of (select q t)) ≡ select q t
-shown_by-shown q t w h =
+pub shown_by-shown : (q : Query) (t : PathTree) → shown_by q.index (tree_of (select q t)) ≡ select q t
+shown_by-shown q t =
     let leaf = leaf_of-tree_by (leaf_in q t) (rows_of q (children_of t)) in
-    let rows = rows_in_tree-shown q t w h ∙ sym h.cut.cut in
+    let rows = rows_in_tree-shown q t in
     λ i. record { leaf = leaf i; rows = map row_of (rows i) }
 
 -- what is kept, as a view
-pub kept_shown : (q : Query) (t : PathTree) (w : Window) (tree u : PathTree) (leaf : Option LeafValue) (rows : List Row) → IsWindowOf q t w → tree ≡ tree_of (select q t)
-    → u ≡ tree → leaf ≡ leaf_of tree → rows ≡ map row_of (shown_in w) → IsShown leaf rows u × (record { leaf = leaf; rows = rows } ≡ select q t)
-kept_shown q t w tree u leaf rows h kept is of_tree of_window =
-    let same_leaf : leaf ≡ leaf_in q t = of_tree ∙ ap leaf_of kept ∙ leaf_of-tree_by (leaf_in q t) (rows_of q (children_of t)) in
-    let same_rows : rows ≡ rows_of q (children_of t) = of_window ∙ ap (map row_of) (sym h.cut.cut) in (
+pub kept_shown : (q : Query) (t tree u : PathTree) (leaf : Option LeafValue) (rows : List Row) → tree ≡ tree_of (select q t)
+    → u ≡ tree → leaf ≡ leaf_of tree → rows ≡ map row_of (entries_shown q t) → IsShown leaf rows u × (record { leaf = leaf; rows = rows } ≡ select q t)
+kept_shown q t tree u leaf rows kept is of_tree same_rows =
+    let same_leaf : leaf ≡ leaf_in q t = of_tree ∙ ap leaf_of kept ∙ leaf_of-tree_by (leaf_in q t) (rows_of q (children_of t)) in (
       subst (λ l. IsShown l rows u) (sym same_leaf) (subst (λ rs. IsShown (leaf_in q t) rs u) (sym same_rows) (subst (λ x. IsShown (leaf_in q t) (rows_of q (children_of t)) x) (sym (is ∙ kept)) (select-shown q t))),
       λ i. record { leaf = same_leaf i; rows = same_rows i },
     )
@@ -100,11 +86,11 @@ same_rows index old new h g none =
     replay_none cs e = ap (λ ds. replay ds (by_keys (map row_of old))) e
 
 -- nothing differs where no row changed and the leaf is the same
-pub same_view : (q : Query) (known tree : PathTree) (w : Window) → IsWindowOf q known w → row_changes q.index (map row_of (rows_in_tree q.index tree)) (map row_of (shown_in w)) ≡ []
+pub same_view : (q : Query) (known tree : PathTree) → changes_to q.index tree (entries_shown q known) ≡ []
     → shown_eq (shown_by q.index tree) (select q known) ≡ option_eq leaf_eq (leaf_of tree) (leaf_in q known)
-same_view q known tree w h none =
+same_view q known tree none =
     let rows : map row_of (rows_in_tree q.index tree) ≡ rows_of q (children_of known) =
-    ap (map row_of) (same_rows q.index (rows_in_tree q.index tree) (shown_in w) (listed-children q.index tree) (listed-window q known w h) none ∙ sym h.cut.cut) in
+    ap (map row_of) (same_rows q.index (rows_in_tree q.index tree) (entries_shown q known) (listed-children q.index tree) (listed-entries q known) none) in
     ap (λ rs. option_eq leaf_eq (leaf_of tree) (leaf_in q known) && pointwise row_eq rs (rows_of q (children_of known))) rows
     ∙ ap (λ b. option_eq leaf_eq (leaf_of tree) (leaf_in q known) && b) (same_lists (rows_of q (children_of known)))
     ∙ and_true (option_eq leaf_eq (leaf_of tree) (leaf_in q known))
@@ -117,15 +103,14 @@ same_view q known tree w h none =
     and_true false = refl
 
 -- and something does where a row changed
-pub other_view : (q : Query) (known tree : PathTree) (w : Window) → IsWindowOf q known w
-    → (row_changes q.index (map row_of (rows_in_tree q.index tree)) (map row_of (shown_in w)) ≡ [] → ⊥)
+pub other_view : (q : Query) (known tree : PathTree) → (changes_to q.index tree (entries_shown q known) ≡ [] → ⊥)
     → shown_eq (shown_by q.index tree) (select q known) ≡ false
-other_view q known tree w h some =
+other_view q known tree some =
     elim (shown_eq (shown_by q.index tree) (select q known)) as (λ b. shown_eq (shown_by q.index tree) (select q known) ≡ b → b ≡ false) [
       | true ↦ λ e.
           let same : shown_by q.index tree ≡ select q known = (shown_eq_tells (shown_by q.index tree) (select q known)).0 e in
-          let rows : map row_of (rows_in_tree q.index tree) ≡ map row_of (shown_in w) = ap (λ (v : Shown). v.rows) same ∙ ap (map row_of) h.cut.cut in
-          absurd (some (ap (λ rs. row_changes q.index rs (map row_of (shown_in w))) rows ∙ row_changes-same q.index (map row_of (shown_in w)) (listed-window q known w h).once))
+          let rows : map row_of (rows_in_tree q.index tree) ≡ rows_of q (children_of known) = ap (λ (v : Shown). v.rows) same in
+          absurd (some (ap (λ rs. row_changes q.index rs (rows_of q (children_of known))) rows ∙ row_changes-same q.index (rows_of q (children_of known)) (listed-entries q known).once))
       | false ↦ λ e. refl
     ] refl
 
@@ -139,18 +124,16 @@ some_list : (d : Change) (ds : List Change) → d ∷ ds ≡ [] → ⊥
 some_list d ds f = absurd (omega (arith, ap (λ (xs : List Change). length xs) f))
 
 -- the changes, where nothing differs, and where something does
-pub told_same : (q : Query) (known tree : PathTree) (w : Window) → IsWindowOf q known w → shown_eq (shown_by q.index tree) (select q known) ≡ true
-    → row_changes q.index (map row_of (rows_in_tree q.index tree)) (map row_of (shown_in w)) ≡ changes q.index (Some (shown_by q.index tree)) (select q known)
-told_same q known tree w h e =
-    ap (λ es. row_changes q.index (map row_of (rows_in_tree q.index tree)) (map row_of es)) (sym h.cut.cut)
-    ∙ sym (append-nil (row_changes q.index (map row_of (rows_in_tree q.index tree)) (rows_of q (children_of known))))
+pub told_same : (q : Query) (known tree : PathTree) → shown_eq (shown_by q.index tree) (select q known) ≡ true
+    → changes_to q.index tree (entries_shown q known) ≡ changes q.index (Some (shown_by q.index tree)) (select q known)
+told_same q known tree e =
+    sym (append-nil (row_changes q.index (map row_of (rows_in_tree q.index tree)) (rows_of q (children_of known))))
     ∙ ap (λ b. row_changes q.index (map row_of (rows_in_tree q.index tree)) (rows_of q (children_of known)) ++ cond b [] (Value (tree_of (select q known)) ∷ [])) (sym e)
 
-pub told_other : (q : Query) (known tree : PathTree) (w : Window) → IsWindowOf q known w → shown_eq (shown_by q.index tree) (select q known) ≡ false
-    → row_changes q.index (map row_of (rows_in_tree q.index tree)) (map row_of (shown_in w)) ++ Value (tree_of (select q known)) ∷ [] ≡ changes q.index (Some (shown_by q.index tree)) (select q known)
-told_other q known tree w h e =
-    ap (λ es. row_changes q.index (map row_of (rows_in_tree q.index tree)) (map row_of es) ++ Value (tree_of (select q known)) ∷ []) (sym h.cut.cut)
-    ∙ ap (λ b. row_changes q.index (map row_of (rows_in_tree q.index tree)) (rows_of q (children_of known)) ++ cond b [] (Value (tree_of (select q known)) ∷ [])) (sym e)
+pub told_other : (q : Query) (known tree : PathTree) → shown_eq (shown_by q.index tree) (select q known) ≡ false
+    → changes_to q.index tree (entries_shown q known) ++ Value (tree_of (select q known)) ∷ [] ≡ changes q.index (Some (shown_by q.index tree)) (select q known)
+told_other q known tree e =
+    ap (λ b. row_changes q.index (map row_of (rows_in_tree q.index tree)) (rows_of q (children_of known)) ++ cond b [] (Value (tree_of (select q known)) ∷ [])) (sym e)
 
 -- where nothing differs the tree is the one that is shown
 pub tree_same : (q : Query) (known tree : PathTree) → shown_eq (shown_by q.index tree) (select q known) ≡ true → tree ≡ tree_of (select q known)
@@ -164,26 +147,26 @@ pub filtered_object : (q : Query) (t u : PathTree) → is_filtered q ≡ true �
 filtered_object q t u filtered is = ap leaf_of is ∙ leaf_of-tree_by (leaf_in q t) (rows_of q (children_of t)) ∙ filtered_leaf q t filtered
 
 -- so nothing differs where no row changed
-pub filtered_same : (q : Query) (known tree : PathTree) (w : Window) (cs : List Change) → IsWindowOf q known w → is_filtered q ≡ true → leaf_of tree ≡ None
-    → cs ≡ row_changes q.index (map row_of (rows_in_tree q.index tree)) (map row_of (shown_in w)) → (length cs == 0) ≡ shown_eq (shown_by q.index tree) (select q known)
-filtered_same q known tree w [] h filtered object is =
-    (λ i. option_eq leaf_eq (sym object i) (sym (filtered_leaf q known filtered) i)) ∙ sym (same_view q known tree w h (sym is))
-filtered_same q known tree w (d ∷ ds) h filtered object is = not_empty d ds ∙ sym (other_view q known tree w h (λ f. some_list d ds (is ∙ f)))
+pub filtered_same : (q : Query) (known tree : PathTree) (cs : List Change) → is_filtered q ≡ true → leaf_of tree ≡ None
+    → cs ≡ changes_to q.index tree (entries_shown q known) → (length cs == 0) ≡ shown_eq (shown_by q.index tree) (select q known)
+filtered_same q known tree [] filtered object is =
+    (λ i. option_eq leaf_eq (sym object i) (sym (filtered_leaf q known filtered) i)) ∙ sym (same_view q known tree (sym is))
+filtered_same q known tree (d ∷ ds) filtered object is = not_empty d ds ∙ sym (other_view q known tree (λ f. some_list d ds (is ∙ f)))
 
 -- where the query isn't filtered: no row changed, and the leaf is the same
-pub plain_same : (q : Query) (known tree : PathTree) (w : Window) (cs : List Change) (leaf : Option LeafValue) → IsWindowOf q known w → is_filtered q ≡ false
-    → cs ≡ row_changes q.index (map row_of (rows_in_tree q.index tree)) (map row_of (shown_in w)) → leaf_of tree ≡ leaf
+pub plain_same : (q : Query) (known tree : PathTree) (cs : List Change) (leaf : Option LeafValue) → is_filtered q ≡ false
+    → cs ≡ changes_to q.index tree (entries_shown q known) → leaf_of tree ≡ leaf
     → ((length cs == 0) && option_eq leaf_eq leaf (leaf_of known)) ≡ shown_eq (shown_by q.index tree) (select q known)
-plain_same q known tree w cs leaf h plain is old = at cs is
+plain_same q known tree cs leaf plain is old = at cs is
   where
     plain_leaf : leaf_in q known ≡ leaf_of known
     plain_leaf = ap (λ b. cond b None (leaf_of known)) plain
 
-    at : (ds : List Change) → ds ≡ row_changes q.index (map row_of (rows_in_tree q.index tree)) (map row_of (shown_in w))
+    at : (ds : List Change) → ds ≡ changes_to q.index tree (entries_shown q known)
         → ((length ds == 0) && option_eq leaf_eq leaf (leaf_of known)) ≡ shown_eq (shown_by q.index tree) (select q known)
-    at [] e = (λ i. option_eq leaf_eq (sym old i) (sym plain_leaf i)) ∙ sym (same_view q known tree w h (sym e))
+    at [] e = (λ i. option_eq leaf_eq (sym old i) (sym plain_leaf i)) ∙ sym (same_view q known tree (sym e))
     at (d ∷ ds) e =
-        ap (λ b. b && option_eq leaf_eq leaf (leaf_of known)) (not_empty d ds) ∙ sym (other_view q known tree w h (λ f. some_list d ds (e ∙ f)))
+        ap (λ b. b && option_eq leaf_eq leaf (leaf_of known)) (not_empty d ds) ∙ sym (other_view q known tree (λ f. some_list d ds (e ∙ f)))
 
 -- what is kept as a tree of its own, or the known one, is what is shown
 pub kept_tree : (q : Query) (t : PathTree) (tree : Option PathTree) → tree ≡ own_tree q t → unwrap_or tree t ≡ tree_of (select q t)
@@ -225,20 +208,20 @@ plain_limit q plain = at (is_some q.range.lower) (is_some q.range.upper) q.limit
     at false false (Some l) e = cc
 
 -- what a query that isn't filtered shows
-pub plain_rows : (q : Query) (t : PathTree) (w : Window) → is_filtered q ≡ false → IsWindowOf q t w → rows_in_tree q.index t ≡ shown_in w
-plain_rows q t w plain h = ap (rows_in_tree q.index) (sym (select-whole q t plain)) ∙ rows_in_tree-shown q t w h
+pub plain_rows : (q : Query) (t : PathTree) → is_filtered q ≡ false → rows_in_tree q.index t ≡ entries_shown q t
+plain_rows q t plain = ap (rows_in_tree q.index) (sym (select-whole q t plain)) ∙ rows_in_tree-shown q t
 
-pub plain_shown : (q : Query) (t : PathTree) (w : Window) → is_filtered q ≡ false → IsWindowOf q t w → shown_by q.index t ≡ select q t
-plain_shown q t w plain h = ap (shown_by q.index) (sym (select-whole q t plain)) ∙ shown_by-shown q t w h
+pub plain_shown : (q : Query) (t : PathTree) → is_filtered q ≡ false → shown_by q.index t ≡ select q t
+plain_shown q t plain = ap (shown_by q.index) (sym (select-whole q t plain)) ∙ shown_by-shown q t
 
 -- ---- the tree of what is shown now
 
--- children that are what the window shows, and no leaf
-pub tree_of_children : (q : Query) (known tree : PathTree) (w : Window) → IsWindowOf q known w → leaf_in q known ≡ None → leaf_of tree ≡ None
-    → ((k : Key) → child_of (children_of tree) k ≡ value_at (shown_in w) k) → tree ≡ tree_of (select q known)
-tree_of_children q known tree w h no_leaf root same =
-    let rows = map row_of (shown_in w) in
-    sym ((λ i. tree_by (no_leaf i) (map row_of (h.cut.cut i)))
+-- children that are what is shown, and no leaf
+pub tree_of_children : (q : Query) (known tree : PathTree) → leaf_in q known ≡ None → leaf_of tree ≡ None
+    → ((k : Key) → child_of (children_of tree) k ≡ value_at (entries_shown q known) k) → tree ≡ tree_of (select q known)
+tree_of_children q known tree no_leaf root same =
+    let rows = rows_of q (children_of known) in
+    sym (ap (λ l. tree_by l rows) no_leaf
     ∙ object-parts tree (as_children rows) root (λ k. child_of-as_children rows k ∙ sym (same k) ∙ child_of-children_of tree k))
 
 -- the noted children were set, and the others are as they were

@@ -8,11 +8,10 @@ ghost use Rattle.rt_tree.specs.TreeEq.{leaf_eq};
 ghost use Rattle.rt_query.specs.Queries.{is_filtered};
 ghost use Rattle.rt_query.specs.Select.{select, tree_of};
 ghost use Rattle.rt_view.specs.Changes.{changes};
-ghost use Rattle.rt_view.specs.inside.Windows.{Entries};
+ghost use Rattle.rt_view.specs.inside.Windows.{Entries, IsListed, shown_in};
 ghost use Rattle.rt_view.specs.inside.Kept.{IsWindowOf, SetsChild, SetsNoted, changes_to};
-ghost use Rattle.rt_view.specs.inside.Kept.{removed_of, shown_by};
+ghost use Rattle.rt_view.specs.inside.Kept.{entries_shown, removed_of, shown_by};
 ghost use Rattle.rt_view.specs.inside.Telling.{AreSeen, IsFit, IsSeen, IsSeenIn, given_of, keys_in};
-ghost use Rattle.rt_view.specs.declared.window.Window.{Window};
 
 use crate::change::{Change, removed};
 use crate::change_list::ChangeList;
@@ -68,10 +67,10 @@ fn row_changes(
     seen: &[Seen],
 ) -> Result<Vec<Change>, AllocError>
     requires { All (IsSeenIn window.now.children.range query.now.index) seen.now }
-    ensures { IfOk result (λ changes. (known t : PathTree)
-        → IsWindowOf query.now known window.now
-        → AreSeen query.now.index t window.now seen.now
-        → changes.items ≡ changes_to query.now.index t window.now) }
+    ensures { IfOk result (λ changes. (t : PathTree)
+        → IsListed query.now.index (shown_in window.now)
+        → AreSeen query.now.index t (shown_in window.now) seen.now
+        → changes.items ≡ changes_to query.now.index t (shown_in window.now)) }
 {
     let index = query.index();
     let found = find_all_told(alloc, query, window, seen)?;
@@ -127,7 +126,7 @@ pub fn tell_filtered(
     requires filtered { is_filtered query.now ≡ true }
     requires object { leaf_of tree.old ≡ None }
     requires kept { IsWindowOf query.now known.now window.now }
-    requires seen { AreSeen query.now.index tree.old window.now seen.now }
+    requires seen { AreSeen query.now.index tree.old (shown_in window.now) seen.now }
     ensures tree { OnOk result (tree.new ≡ tree_of (select query.now known.now)) }
     ensures changes { IfOk result (λ list. list
         ≡ changes query.now.index (Some (shown_by query.now.index tree.old))
@@ -171,8 +170,8 @@ pub fn with_value(
     leaf: Option<&Leaf>,
 ) -> Result<ChangeList, AllocError>
     requires { is_filtered query.now ≡ false }
-    ensures { IfOk result (λ list. (window : Window) (t : PathTree)
-        → IsWindowOf query.now known.now window → rows.items ≡ changes_to query.now.index t window
+    ensures { IfOk result (λ list. (t : PathTree)
+        → rows.items ≡ changes_to query.now.index t (entries_shown query.now known.now)
         → leaf_of t ≡ option_copied leaf.entry
         → list ≡ changes query.now.index (Some (shown_by query.now.index t))
         (select query.now known.now)) }
@@ -198,7 +197,8 @@ pub fn tell_plain(
 ) -> Result<ChangeList, AllocError>
     requires kept { IsWindowOf query.now known.now window.now }
     requires plain { is_filtered query.now ≡ false }
-    ensures { IfOk result (λ list. (t : PathTree) → AreSeen query.now.index t window.now seen.now
+    ensures { IfOk result (λ list. (t : PathTree)
+        → AreSeen query.now.index t (shown_in window.now) seen.now
         → leaf_of t ≡ option_copied leaf.entry
         → list ≡ changes query.now.index (Some (shown_by query.now.index t))
         (select query.now known.now)) }

@@ -7,8 +7,8 @@ ghost use Rattle.std.specs.Map.{values_of};
 ghost use Rattle.rt_tree.specs.PathTree.{PathTree, key_cmp};
 ghost use Rattle.rt_order.specs.Cuts.{has};
 ghost use Rattle.rt_order.specs.Entries.{entry, entry_cmp};
-ghost use Rattle.rt_view.specs.inside.Windows.{before, shown_in};
-ghost use Rattle.rt_view.specs.inside.Kept.{IsWindowOf, gone_at, gone_from, noted_in, rows_in_tree};
+ghost use Rattle.rt_view.specs.inside.Windows.{IsListed, before, shown_in};
+ghost use Rattle.rt_view.specs.inside.Kept.{gone_at, gone_from, noted_in, rows_in_tree};
 ghost use Rattle.rt_view.specs.inside.Telling.{IsSeen, IsSeenIn, gone_too, keys_in, kept_by, put_all};
 ghost use Rattle.rt_view.specs.inside.Telling.{seen_in, seen_out, seen_too, seen_turned, told_in, told_too};
 
@@ -315,12 +315,12 @@ pub fn find_all_told(
     seen: &[Seen],
 ) -> Result<Noted, AllocError>
     requires { All (IsSeenIn window.now.children.range query.now.index) seen.now }
-    ensures gone { IfOk result (λ noted. (known t : PathTree)
-        → IsWindowOf query.now known window.now → All (IsSeen t (shown_in window.now)) seen.now
+    ensures gone { IfOk result (λ noted. (t : PathTree)
+        → IsListed query.now.index (shown_in window.now) → All (IsSeen t (shown_in window.now)) seen.now
         → noted.gone.items ≡ gone_from (keys_in seen.now) (shown_in window.now)
         (rows_in_tree query.now.index t)) }
-    ensures now { IfOk result (λ noted. (known t : PathTree)
-        → IsWindowOf query.now known window.now → All (IsSeen t (shown_in window.now)) seen.now
+    ensures now { IfOk result (λ noted. (t : PathTree)
+        → IsListed query.now.index (shown_in window.now) → All (IsSeen t (shown_in window.now)) seen.now
         → noted.now.items ≡ told_in t (shown_in window.now)
         (noted_in (keys_in seen.now) (shown_in window.now))) }
 {

@@ -9,7 +9,7 @@ use Rattle.rt_order.specs.declared.index.Index.{Index}
 use Rattle.rt_order.specs.Entries.{Entry, entry}
 use Rattle.rt_order.specs.Cuts.{has}
 use Rattle.rt_query.specs.Queries.{Query, is_filtered}
-use Rattle.rt_query.specs.Select.{Shown, sorted_by, select, tree_of, row_of}
+use Rattle.rt_query.specs.Select.{Shown, limited, sorted_by, select, tree_of, row_of}
 use Rattle.rt_view.specs.declared.window.Window.{Window}
 use Rattle.rt_view.specs.declared.change.Change.{Change}
 use Rattle.rt_view.specs.declared.change.Change.TheVariants.{Removed}
@@ -21,6 +21,10 @@ use Rattle.rt_view.specs.inside.Windows.{Entries, IsWindow, value_at, without, b
 -- the children in the range, in order
 abbrev pub in_order : Query → List (Key × PathTree) → Entries
 in_order q cs = filter (λ e. has q.range e.0) (sorted_by q.index cs)
+
+-- and of these the ones that the limit shows
+abbrev pub entries_shown : Query → PathTree → Entries
+entries_shown q t = limited q.limit (in_order q (children_of t))
 
 -- all children by their entries, in the order of their keys' bytes
 abbrev pub entries_of : Index → List (Key × PathTree) → Entries
@@ -87,9 +91,9 @@ abbrev pub Notes : List Key → List Key → Entries → Entries → Type 0
 Notes old new before after = (k : Key) → is_noted new k ≡ false → (is_noted old k ≡ false)
     × (value_at after k ≡ value_at before k)
 
--- the notes between a tree that was shown and what a window shows
-abbrev pub NotesAll : Index → List Key → PathTree → Window → Type 0
-NotesAll index noted old window = Notes [] noted (rows_in_tree index old) (shown_in window)
+-- the notes between a tree that was shown and what is shown now
+abbrev pub NotesAll : Index → List Key → PathTree → Entries → Type 0
+NotesAll index noted old shown = Notes [] noted (rows_in_tree index old) shown
 
 -- of the entries those whose keys are noted
 abbrev pub noted_in : List Key → Entries → Entries
@@ -115,10 +119,9 @@ SetsNoted noted shown before after = (k : Key)
 
 -- ---- what is told of some entries
 
--- the changes of the rows, from a tree that was shown to what a window shows
-abbrev pub changes_to : Index → PathTree → Window → List Change
-changes_to index old window = row_changes index (map row_of (rows_in_tree index old))
-    (map row_of (shown_in window))
+-- the changes of the rows, from a tree that was shown to what is shown now
+abbrev pub changes_to : Index → PathTree → Entries → List Change
+changes_to index old shown = row_changes index (map row_of (rows_in_tree index old)) (map row_of shown)
 
 -- a child that is shown no more
 abbrev pub removed_of : Entry × PathTree → Change

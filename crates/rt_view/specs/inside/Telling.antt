@@ -17,13 +17,12 @@ use Rattle.rt_query.specs.Queries.{Query}
 use Rattle.rt_view.specs.declared.told.Seen.{Seen}
 use Rattle.rt_view.specs.declared.told.Told.{Told}
 use Rattle.rt_view.specs.declared.window.Turned.{Turned}
-use Rattle.rt_view.specs.declared.window.Window.{Window}
 use Rattle.rt_view.specs.declared.change.Change.{Change}
 use Rattle.rt_view.specs.declared.kind.Kind.{Kind}
 use Rattle.rt_view.specs.inside.Given.{change_of, is_given}
 use Rattle.rt_view.specs.inside.Kept.{Notes, NotesAll, taken_out}
 use Rattle.rt_view.specs.inside.Turns.{Values, shown_if}
-use Rattle.rt_view.specs.inside.Windows.{Entries, before, value_at, shown_in}
+use Rattle.rt_view.specs.inside.Windows.{Entries, before, value_at}
 
 -- ---- a child that comes
 
@@ -55,9 +54,9 @@ abbrev pub IsSeenIn : Range → Index → Seen → Type 0
 IsSeenIn range index s = IfSome s.new (λ t. has range (entry index (s.key, t)) ≡ true)
 
 -- what was shown of a tree and what is shown now, where under other keys than these the same is shown
-pub record AreSeen (index : Index) (t : PathTree) (window : Window) (seen : List Seen) : Type 0 where
-  pub each : All (IsSeen t (shown_in window)) seen
-  pub notes : NotesAll index (keys_in seen) t window
+pub record AreSeen (index : Index) (t : PathTree) (shown : Entries) (seen : List Seen) : Type 0 where
+  pub each : All (IsSeen t shown) seen
+  pub notes : NotesAll index (keys_in seen) t shown
 
 -- ---- what is kept by each key under which something else is shown
 

@@ -8,17 +8,16 @@ use Rattle.rt_view.specs.inside.Kept.{gone_at, gone_from, noted_in, rows_in_tree
 use Rattle.rt_view.specs.inside.Telling.{IsSeen, gone_too, keys_in, put_all, told_in, told_too}
 use Rattle.rt_view.proofs.Listed.{listed-children, value_at-children}
 use Rattle.rt_view.proofs.TellLaws.{next_taken, keys_in-more, gone_also, told_also, noted_nothing, gone_nothing}
-use Rattle.rt_view.proofs.TreeLaws.{listed-window}
 use Rattle.rt_view.proofs.told.find_all_told.Goals as goal
 
 pub loop-one-init : goal.loop-one-init
-loop-one-init c known t kept had = (
+loop-one-init c t listed had = (
   ap put_all c.new-gone.ensures.items ∙ sym (gone_nothing (shown_in c.args.window.now) (rows_in_tree c.args.query.now.index t)),
   ap put_all c.new-now.ensures.items ∙ ap (told_in t (shown_in c.args.window.now)) (sym (noted_nothing (shown_in c.args.window.now))),
 )
 
 pub loop-one-preserved : goal.loop-one-preserved
-loop-one-preserved c known t kept had =
+loop-one-preserved c t listed had =
     let index = c.args.query.now.index in
     let own = c.index.ensures in
     let new : Entries = shown_in c.args.window.now in
@@ -29,8 +28,7 @@ loop-one-preserved c known t kept had =
     let next : keys_in (take (c.loop-one.one-index + 1) seen) ≡ ks ++ one.key ∷ [] =
     ap keys_in (next_taken seen c.loop-one.one-index one c.loop-one-test.true c.one-item.is) ∙ keys_in-more (take c.loop-one.one-index seen) one in
     let at : IsSeen t new one = subst (λ (s : Seen). IsSeen t new s) (sym c.one-item.is) (All-get_or (IsSeen t new) seen c.loop-one.one-index one c.loop-one-test.true had) in
-    let before = c.loop-one.invariant known t kept had in
-    let listed = listed-window c.args.query.now known c.args.window.now kept in (
+    let before = c.loop-one.invariant t listed had in (
       c.in_ok-find_told.ensures.gone
           ∙ (λ i. gone_too (own i) one.key (gone_at (at.1 i) ((at.0 ∙ sym (value_at-children index t one.key)) i)) (before.0 i))
           ∙ gone_also index ks one.key new old (listed-children index t) ∙ ap (λ js. gone_from js new old) (sym next),
@@ -39,11 +37,11 @@ loop-one-preserved c known t kept had =
     )
 
 pub returns-clause-gone : goal.returns-clause-gone
-returns-clause-gone c known t kept had =
-    c.in_ok-gone.ensures ∙ (c.loop-one.invariant known t kept had).0
+returns-clause-gone c t listed had =
+    c.in_ok-gone.ensures ∙ (c.loop-one.invariant t listed had).0
     ∙ ap (λ ws. gone_from (keys_in ws) (shown_in c.args.window.now) (rows_in_tree c.args.query.now.index t)) (take_all c.loop-one.one-index c.args.seen.now c.loop-one-test.false)
 
 pub returns-clause-now : goal.returns-clause-now
-returns-clause-now c known t kept had =
-    c.in_ok-now.ensures ∙ (c.loop-one.invariant known t kept had).1
+returns-clause-now c t listed had =
+    c.in_ok-now.ensures ∙ (c.loop-one.invariant t listed had).1
     ∙ ap (λ ws. told_in t (shown_in c.args.window.now) (noted_in (keys_in ws) (shown_in c.args.window.now))) (take_all c.loop-one.one-index c.args.seen.now c.loop-one-test.false)

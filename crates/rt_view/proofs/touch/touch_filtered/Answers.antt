@@ -20,14 +20,14 @@ tell_filtered-requires-clause-seen c =
     let t = c.args.tree.now in
     let w = c.touch_all.new.window in
     let same : rows_in_tree q.index t ≡ shown_in c.args.window.now =
-    ap (rows_in_tree q.index) c.requires.tree ∙ rows_in_tree-shown q c.args.known.now c.args.window.now c.requires.kept in
+    ap (rows_in_tree q.index) c.requires.tree ∙ rows_in_tree-shown q c.args.known.now ∙ c.requires.kept.cut.cut in
     let of_tree : (k : Key) → value_at (shown_in c.args.window.now) k ≡ child_of (children_of t) k =
     λ k. ap (λ (es : Entries). value_at es k) (sym same) ∙ value_at-children q.index t k in
-    subst (AreSeen q.index t w) (sym c.as_slice.ensures.value) (are_seen q.index t w (shown_in c.args.window.now) _ c.in_ok-seen.ensures.seen of_tree)
+    subst (AreSeen q.index t (shown_in w)) (sym c.as_slice.ensures.value) (are_seen q.index t (shown_in c.args.window.now) (shown_in w) _ c.in_ok-seen.ensures.seen of_tree)
 
 pub returns-clause-changes : goal.returns-clause-changes
 returns-clause-changes c =
     let q = c.args.query.now in
     let shown : shown_by q.index c.args.tree.now ≡ select q c.args.known.now =
-    ap (shown_by q.index) c.requires.tree ∙ shown_by-shown q c.args.known.now c.args.window.now c.requires.kept in
+    ap (shown_by q.index) c.requires.tree ∙ shown_by-shown q c.args.known.now in
     subst (λ v. IfOk c.tell_filtered.result (λ list. list ≡ changes q.index (Some v) (select q c.touch_all.new.known))) shown c.tell_filtered.ensures.changes

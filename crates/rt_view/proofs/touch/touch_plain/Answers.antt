@@ -9,17 +9,18 @@ use Rattle.rt_view.proofs.AloneLaws.{plain_value}
 use Rattle.rt_view.proofs.SeenLaws.{are_seen}
 use Rattle.rt_view.proofs.TreeLaws.{plain_shown}
 use Rattle.rt_view.proofs.touch.touch_plain.Goals as goal
-use Rattle.rt_view.specs.inside.Windows.{shown_in}
+use Rattle.rt_view.specs.inside.Windows.{Entries, shown_in, value_at}
 
 pub returns-clause-changes : goal.returns-clause-changes
 returns-clause-changes c =
     let q = c.args.query.now in
     let t : PathTree = c.args.known.now in
     let w = c.touch_all.new.window in
-    let seen : AreSeen q.index t w c.as_slice.result.now =
-    subst (AreSeen q.index t w) (sym c.as_slice.ensures.value)
-    (are_seen q.index t w (shown_in c.args.window.now) _ c.in_ok-seen.ensures.seen (λ k. plain_value q t c.args.window.now k c.requires.plain c.requires.kept)) in
+    let seen : AreSeen q.index t (shown_in w) c.as_slice.result.now =
+    subst (AreSeen q.index t (shown_in w)) (sym c.as_slice.ensures.value)
+    (are_seen q.index t (shown_in c.args.window.now) (shown_in w) _ c.in_ok-seen.ensures.seen
+    (λ k. ap (λ (es : Entries). value_at es k) (sym c.requires.kept.cut.cut) ∙ plain_value q t k c.requires.plain)) in
     let leaf : leaf_of t ≡ option_copied c.as_ref.result = search rules in
     IfOk-weaker c.tell_plain.result _ _
-    (λ list told. told t seen leaf ∙ ap (λ v. changes q.index (Some v) (select q c.touch_all.new.known)) (plain_shown q t c.args.window.now c.requires.plain c.requires.kept))
+    (λ list told. told t seen leaf ∙ ap (λ v. changes q.index (Some v) (select q c.touch_all.new.known)) (plain_shown q t c.requires.plain))
     c.tell_plain.ensures
