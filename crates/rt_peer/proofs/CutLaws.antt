@@ -1,5 +1,5 @@
 -- Actions that lose what they have at and below a path.
-use Rattle.std.proofs.Common.{◌≡◌, ℕ, zero, suc, ◌+◌, ◌<◌, ◌≤◌, ◌==◌, Bool, true, false, cond, not, ◌||◌, ◌&&◌, List, [], ◌∷◌, length, map, drop, get_or, Option, Some, None, is_some, refl, sym, ap, subst, ◌∙◌, arith, if◌then◌else◌}
+use Rattle.std.proofs.Common.{◌≡◌, ℕ, ◌==◌, Bool, true, false, cond, not, ◌||◌, ◌&&◌, List, [], ◌∷◌, map, Option, Some, None, is_some, refl, sym, ap, subst, ◌∙◌, arith, if◌then◌else◌}
 use mathlib.Core.Bool.{true≢false}
 use Rattle.std.specs.List.{All, filter, list_any}
 use Rattle.std.specs.Map.{keys_of, lookup, remove_entry}
@@ -7,7 +7,6 @@ use Rattle.std.specs.BTreeMap.{insert_entry, is_at as key_is}
 use Rattle.std.specs.Ordering.{is_eq, match_ordering}
 use Rattle.std.specs.declared.cmp.Ordering.TheVariants.{Less, Equal, Greater}
 use Rattle.std.proofs.lemmas.Bool.Decides.{nat_tests}
-use Rattle.std.proofs.lemmas.List.{drop_all}
 use Rattle.std.proofs.lemmas.List.Elements.{All-cons, All-head, All-tail}
 use Rattle.std.proofs.lemmas.Map.Keys.{sorted_tail}
 use Rattle.rt_tree.specs.PathTree.{Path}
@@ -201,31 +200,19 @@ all_clean n q (e ∷ es) h =
 
 -- ---- place by place
 
-drop_one : (i : ℕ) (d : Place) (ps : List Place) → i < length ps → drop i ps ≡ get_or ps i d ∷ drop (i + 1) ps
-drop_one i d [] lt = absurd (omega (arith, lt))
-drop_one zero d (p ∷ ps) lt = refl
-drop_one (suc i) d (p ∷ ps) lt =
-    drop_one i d ps (omega (arith, lt)) ∙ ap (λ m. get_or ps i d ∷ drop m (p ∷ ps)) (next i)
-  where
-    next : (m : ℕ) → suc (m + 1) ≡ suc m + 1
-    next m = omega arith
+pub listed_next : (n : ℕ) (q : Path) (p : Place) (rest places : List Place) (es left : PlacedActions) → places ≡ p ∷ rest
+    → left ≡ cut_at p q es → AreByPlace es → AreListed n q places es → AreListed n q rest left
+listed_next n q p rest places es left steps is s listed =
+    subst (AreListed n q rest) (sym is) (listed_cut n p q rest es s (subst (λ ps. AreListed n q ps es) steps listed))
 
-pub listed_next : (n : ℕ) (q : Path) (i : ℕ) (d : Place) (ps : List Place) (es left : PlacedActions) → i < length ps
-    → left ≡ cut_at (get_or ps i d) q es → AreByPlace es → AreListed n q (drop i ps) es → AreListed n q (drop (i + 1) ps) left
-listed_next n q i d ps es left lt is s listed =
-    subst (AreListed n q (drop (i + 1) ps)) (sym is)
-    (listed_cut n (get_or ps i d) q (drop (i + 1) ps) es s (subst (λ xs. AreListed n q xs es) (drop_one i d ps lt) listed))
+pub leaves_next : (n : ℕ) (q : Path) (p : Place) (es left first : PlacedActions) → left ≡ cut_at p q es → p.connection ≡ n
+    → to_leave n q es ≡ to_leave n q first → to_leave n q left ≡ to_leave n q first
+leaves_next n q p es left first is own h = ap (to_leave n q) is ∙ cut_same n p q es own ∙ h
 
-pub leaves_next : (n : ℕ) (q : Path) (i : ℕ) (d : Place) (ps : List Place) (es left first : PlacedActions) → i < length ps
-    → left ≡ cut_at (get_or ps i d) q es → All (λ (p : Place). p.connection ≡ n) ps → to_leave n q es ≡ to_leave n q first
-    → to_leave n q left ≡ to_leave n q first
-leaves_next n q i d ps es left first lt is own h =
-    ap (to_leave n q) is ∙ cut_same n (get_or ps i d) q es (own i d lt) ∙ h
-
-pub all_left : (n : ℕ) (q : Path) (i : ℕ) (ps : List Place) (es left first : PlacedActions) (now : List Deferred) → length ps ≤ i
-    → left ≡ filter (λ e. not (is_bare e)) es → AreListed n q (drop i ps) es → to_leave n q es ≡ to_leave n q first
+pub all_left : (n : ℕ) (q : Path) (places : List Place) (es left first : PlacedActions) (now : List Deferred) → places ≡ []
+    → left ≡ filter (λ e. not (is_bare e)) es → AreListed n q places es → to_leave n q es ≡ to_leave n q first
     → deferreds_of first ≡ now → deferreds_of left ≡ filter has_entries (map (without_below n q) now)
-all_left n q i ps es left first now le is listed h view =
+all_left n q places es left first now none is listed h view =
     ap deferreds_of is
-    ∙ all_clean n q es (subst (λ xs. AreListed n q xs es) (drop_all i ps le) listed)
+    ∙ all_clean n q es (subst (λ ps. AreListed n q ps es) none listed)
     ∙ h ∙ ap (λ ds. filter has_entries (map (without_below n q) ds)) view

@@ -3,7 +3,7 @@ pub mod BoardLaws
 pub mod BundleLaws
 pub mod CountLaws
 pub mod CutLaws
-pub mod DirtyLaws
+pub mod EntrySpotLaws
 pub mod FoundLaws
 pub mod KeptLaws
 pub mod ListenLaws

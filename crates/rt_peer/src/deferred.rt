@@ -115,7 +115,8 @@ impl Actions {
         self.placed.count_of(connection)
     }
 
-    // Takes out what the connection's actions have at and below the path. Costs by the connection's actions.
+    // Takes out what the connection's actions have at and below the path. Costs by the
+    // actions that have some, and by their entries.
     pub(crate) fn drop_below(
         &mut self,
         alloc: Global,

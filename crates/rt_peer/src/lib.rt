@@ -17,6 +17,7 @@ mod bundles;
 mod connections;
 mod counts;
 mod deferred;
+mod entry_spots;
 mod error;
 mod examples;
 mod heard;

@@ -68,17 +68,23 @@ impl Peer {
         self.state.tree()
     }
 
-    // For the hub: how many bytes the tree has as JSON, and the largest number of this type where it has more. The
-    // number is kept beside the tree.
+    /// How many bytes the tree has as JSON; the largest number of this type where it has more.
+    ///
+    /// The number is kept beside the tree. So a server may ask before each message, and bound the tree.
     pub fn text_len(&self) -> usize
         ensures { IfSome self.now (λ p. result ≡ capped (text_length p.tree)) }
     {
         self.state.text_len()
     }
 
-    // For the hub: how many bytes the tree would have as JSON with these entries, put one after another, and the
-    // largest number of this type where it would have more. Costs by the entries' paths, by what they write and by
-    // what stands there. Where memory lacks the peer stays as it is.
+    /// How many bytes the tree would have as JSON with these entries, put one after another; the largest number
+    /// of this type where it would have more.
+    ///
+    /// Costs by the entries' paths, by what they write and by what stands there.
+    ///
+    /// # Errors
+    ///
+    /// A want of memory. The peer stays as it is.
     pub fn text_len_with(&self, entries: &[(Path, Tree)]) -> Result<usize, AllocError>
         requires { All IsShallow entries.now }
         ensures { IfOk result (λ len. IfSome self.now
@@ -87,8 +93,14 @@ impl Peer {
         self.state.text_len_with(entries)
     }
 
-    // For the hub: how many bytes has as JSON what the query shows of the tree, and the largest number of this type
-    // where it has more. Walks what it shows. Where memory lacks the peer stays as it is.
+    /// How many bytes has as JSON what the query shows of the tree; the largest number of this type where it has
+    /// more.
+    ///
+    /// Walks what it shows.
+    ///
+    /// # Errors
+    ///
+    /// A want of memory. The peer stays as it is.
     pub fn seen_len(&self, query: &Query) -> Result<usize, AllocError>
         ensures { IfOk result (λ len. IfSome self.now
             (λ p. len ≡ capped (text_length (seen query.now p.tree)))) }

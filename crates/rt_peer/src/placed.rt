@@ -16,6 +16,7 @@ ghost use Rattle.rt_peer.specs.inside.Placed.{without_bare, AllMarked, AreByPlac
 
 use crate::action_place::{Place, first_place};
 use crate::counts::{count_of, lower, raise};
+use crate::entry_spots::{EntrySpot, places_under, put_spots, take_spots, take_spots_under};
 use rt_tree::{Path, Tree};
 use rt_writes::Entries;
 use std::alloc::{AllocError, Global};
@@ -30,33 +31,6 @@ fn is_bare(entries: &Entries) -> bool
         [] => true,
         [_, ..] => false,
     }
-}
-
-// Whether an entry is at or below the path.
-fn is_any_below(entries: &Entries, path: &Path) -> bool
-    ensures { result ≡ list_any (λ a. is_at_or_above path.now a.0) entries.now }
-{
-    entries
-        .as_slice()
-        .iter()
-        .any(|entry| path.is_prefix_of(&entry.0))
-}
-
-// Lists the place of an action, where it has an entry at or below the path.
-fn list_dirty(
-    places: &mut Vec<Place>,
-    place: Place,
-    entries: &Entries,
-    path: &Path,
-) -> Result<(), AllocError>
-    ensures { OnOk result (places.new.items ≡ places.old.items
-        ++ (if list_any (λ a. is_at_or_above path.now a.0) entries.now then place ∷ [] else [])) }
-{
-    if !is_any_below(entries, path) {
-        return Ok(());
-    }
-    places.push(place)?;
-    Ok(())
 }
 
 // The entries that are not at or below the path.
@@ -132,11 +106,12 @@ fn drop_bare(
     }
 }
 
-// The entries of the actions of connections, by place; the marked places of those that have none; how many
-// each connection has; and how many have come.
+// The entries of the actions of connections, by place; the marked places of those that have none; where the
+// entries stand by path; how many each connection has; and how many have come.
 pub(crate) struct Placed {
     by_place: BTreeMap<Place, Entries>,
     empty: BTreeSet<Place>,
+    spots: BTreeSet<EntrySpot>,
     counts: BTreeMap<u64, usize>,
     arrived: u64,
 }
@@ -146,6 +121,7 @@ impl Drop for Placed {
         let Placed {
             by_place: _,
             empty: _,
+            spots: _,
             counts: _,
             arrived: _,
         } = self;
@@ -153,13 +129,15 @@ impl Drop for Placed {
 }
 
 impl Model for Placed {
+    ghost use Rattle.rt_peer.specs.inside.EntrySpots.{AllSpotted};
     ghost use Rattle.rt_peer.specs.inside.Placed.{AreKept, PlacedActions};
 
     ghost Value = { PlacedActions };
 
     ghost view = { λ a. a.by_place.entries };
 
-    ghost invariant = { λ a. AreKept a.by_place.entries a.empty.keys a.counts.entries a.arrived };
+    ghost invariant = { λ a. AreKept a.by_place.entries a.empty.keys a.counts.entries a.arrived
+        × AllSpotted a.spots.keys a.by_place.entries };
 }
 
 impl Placed {
@@ -169,6 +147,7 @@ impl Placed {
         Placed {
             by_place: BTreeMap::new(alloc),
             empty: BTreeSet::new(alloc),
+            spots: BTreeSet::new(alloc),
             counts: BTreeMap::new(alloc),
             arrived: 0,
         }
@@ -201,6 +180,7 @@ impl Placed {
             return Err(AllocError);
         };
         mark(&mut self.empty, &entries, place)?;
+        put_spots(&mut self.spots, place, &entries)?;
         raise(&mut self.counts, connection)?;
         self.arrived = arrived;
         match self.by_place.insert(place, entries) {
@@ -233,6 +213,7 @@ impl Placed {
         match self.by_place.remove(&place) {
             Some(entries) => {
                 self.empty.remove(&place);
+                take_spots(&mut self.spots, place, &entries);
                 lower(&mut self.counts, place.connection);
                 Some(entries)
             }
@@ -240,28 +221,23 @@ impl Placed {
         }
     }
 
-    // The places of the connection's actions that have an entry at or below the path. Costs by its actions.
+    // The places of the connection's actions that have an entry at or below the path. Costs by these entries.
     pub(crate) fn dirty_of(
         &self,
         alloc: Global,
         connection: u64,
         path: &Path,
-    ) -> Result<Vec<Place>, AllocError>
-        ensures listed { IfOk result (λ places. AreListed connection path.now places.items self.now) }
-        ensures own { IfOk result (λ places. All (λ p. p.connection ≡ connection) places.items) }
+    ) -> Result<BTreeSet<Place>, AllocError>
+        ensures listed { IfOk result (λ places. AreListed connection path.now places.keys self.now) }
+        ensures own { IfOk result (λ places. All (λ p. p.connection ≡ connection) places.keys) }
     {
-        let mut places = Vec::new(alloc);
-        let from = first_place(connection);
-        for (place, entries) in self.by_place.range(from..) {
-            if place.connection != connection {
-                return Ok(places);
-            }
-            list_dirty(&mut places, *place, entries, path)?;
-        }
-        Ok(places)
+        // For the prover: what the places lead to.
+        let _by_place = &self.by_place;
+        places_under(alloc, &self.spots, connection, path)
     }
 
-    // Takes what is at and below the path out of the action at the place, which goes where nothing is left.
+    // Takes what is at and below the path out of the action at the place, which goes where nothing is left. Costs
+    // by the action's entries.
     pub(crate) fn cut(&mut self, alloc: Global, place: Place, path: &Path) -> Result<(), AllocError>
         ensures cut { OnOk result (self.new ≡ cut_at place path.now self.old) }
         ensures order { AreByPlace self.old }
@@ -274,7 +250,11 @@ impl Placed {
                     return Ok(());
                 }
                 match self.by_place.insert(place, left) {
-                    Ok(_) => Ok(()),
+                    Ok(Some(whole)) => {
+                        take_spots_under(&mut self.spots, place, &whole, path);
+                        Ok(())
+                    }
+                    Ok(None) => Ok(()),
                     Err(_) => Err(AllocError),
                 }
             }

@@ -21,7 +21,7 @@ use std::alloc::{AllocError, Global};
 fn child_of(alloc: Global, tree: &Tree, key: &Key) -> Result<Tree, AllocError>
     ensures { IfOk result (λ child. child ≡ sub tree.now (key.now ∷ [])) }
 {
-    match tree.child(key) {
+    match tree.child_at(key) {
         Some(child) => child.copy(alloc),
         None => Ok(Tree::null()),
     }

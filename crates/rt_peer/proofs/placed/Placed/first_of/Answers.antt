@@ -16,7 +16,7 @@ returns-in-Some-2 c =
     let x : Place × List Assignment = (c.in-Some.place.now, c.in-Some.field-0-1.now) in
     let begins : c.range.result ≡ x ∷ c.next.new.self = search rules in
     other_seen c.args.connection c.self.inside.by_place.entries c.args.self.now c.range.result c.next.new.self x c.first_place-from.result
-    c.self.invariant.order c.self.view_is c.first_place-from.ensures (c.range.ensures.between tt) begins (search rules)
+    c.self.invariant.0.order c.self.view_is c.first_place-from.ensures (c.range.ensures.between tt) begins (search rules)
 
 pub returns-in-None : goal.returns-in-None
 returns-in-None c =
