@@ -2,7 +2,7 @@
 use crate::heard::End;
 use crate::serve::MAX_MESSAGES;
 use rt_input::Log;
-use rt_socket::SocketFault;
+use rt_socket::{SocketFault, or_unknown};
 use rt_wire::{MAX_MARKS, WireError};
 use std::alloc::{AllocError, Global};
 use std::fmt;
@@ -76,7 +76,9 @@ impl fmt::Display for End {
     fn fmt<W: fmt::Write>(&self, f: &mut fmt::Formatter<W>) -> fmt::Result {
         match self {
             End::Closed(None) => f.write_str("the client closed it"),
-            End::Closed(Some(code)) => write!(f, "the client closed it with {code}"),
+            End::Closed(Some(code)) => {
+                write!(f, "the client closed it with {code}{}", or_unknown(*code))
+            }
             End::Failed(why) => match self.close_code() {
                 Some(code) => write!(f, "{why}; it is closed with {code}"),
                 None => write!(f, "{why}"),

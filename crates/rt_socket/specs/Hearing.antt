@@ -1,5 +1,5 @@
 -- What a read, a write and a flush of a WebSocket say, of a stream that doesn't wait.
-use Rattle.std.specs.Prelude.{if◌then◌else◌, Bool, true, false, Option, Some, None, Result, Ok, Err}
+use Rattle.std.specs.Prelude.{if◌then◌else◌, ◌==◌, ℕ, List, [], codes, Bool, true, false, Option, Some, None, Result, Ok, Err}
 use Rattle.std.specs.IoError.{error_kind}
 use Rattle.std.specs.declared.io.ErrorKind.{ErrorKind}
 use Rattle.std.specs.declared.io.ErrorKind.TheVariants.{WouldBlock}
@@ -46,6 +46,10 @@ is_waiting kind = false
 abbrev pub is_blocked : SocketFault → Bool
 is_blocked (fault.Io why) = is_waiting (error_kind why)
 is_blocked f = false
+
+-- what else a close may have been that is read with a code: a code that none may send is read as 1002
+abbrev pub or_unknown : ℕ → List ℕ
+or_unknown code = if code == 1002 then codes " or an unknown one" else []
 
 -- how a connection ends that the other side closes
 abbrev pub closed_by : Option CloseFrame → Lost

@@ -18,8 +18,8 @@ pub use awaited::Awaited;
 pub use batch::{Batch, Pause, hear_all, say_all};
 pub use examples::origin_examples;
 pub use fault::{SocketFault, fault_of};
-pub use lost::{Lost, closed_by, unopened};
-pub use origin::{Origins, is_port};
+pub use lost::{Lost, closed_by, or_unknown, unopened};
+pub use origin::{Origins, is_page_of, is_port, may_connect};
 pub use paced::Paced;
 pub use patience::{
     CLOSING_MS, FIRST_WAIT_MS, HANDSHAKE_MS, HANDSHAKE_TICKS, LASTING_MS, MOST_WAIT_MS, PING_MS,

@@ -1,6 +1,6 @@
 // Why a connection does not come about, or has ended.
 ghost use Rattle.std.specs.Prelude.{◌≡◌};
-ghost use Rattle.rt_socket.specs.Hearing.{closed_by, unopened};
+ghost use Rattle.rt_socket.specs.Hearing.{closed_by, or_unknown, unopened};
 
 use crate::fault::{SocketFault, fault_of};
 use crate::patience::{HANDSHAKE_MS, SILENCE_MS};
@@ -28,7 +28,7 @@ pub enum Lost {
     #[error("the server closed the connection, without a code")]
     Closed,
     /// The server closed it with a code, and perhaps a reason.
-    #[error("the server closed the connection with code {}: {:?}", .0.code, .0.reason.as_str())]
+    #[error("the server closed the connection with code {}{}: {:?}", .0.code, or_unknown(.0.code.into()), .0.reason.as_str())]
     ClosedWith(CloseFrame),
     /// Nothing came for long, not even the answer to a ping.
     #[error("the server was silent for {SILENCE_MS} ms")]
@@ -39,6 +39,18 @@ impl fmt::Debug for Lost {
     // In its words.
     fn fmt<W: fmt::Write>(&self, f: &mut fmt::Formatter<W>) -> fmt::Result {
         fmt::Display::fmt(self, f)
+    }
+}
+
+/// What else a close may have been that is read with this code: 1014, and a code that none may send, are read
+/// as 1002.
+pub fn or_unknown(code: u16) -> &'static str
+    ensures { result.now ≡ or_unknown code }
+{
+    if code == 1002 {
+        " or an unknown one"
+    } else {
+        ""
     }
 }
 

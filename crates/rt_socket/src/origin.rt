@@ -37,8 +37,8 @@ pub fn is_port(text: &[u8]) -> bool
     }
 }
 
-// Whether an origin is a page of that place, at any port.
-fn is_page_of(place: &str, origin: &str) -> bool
+/// Whether an origin is a page of that place, at any port.
+pub fn is_page_of(place: &str, origin: &str) -> bool
     ensures { result ≡ is_page_of place.now origin.now }
 {
     match origin.as_bytes().strip_prefix(place.as_bytes()) {
@@ -71,8 +71,8 @@ fn is_among(origin: &str, allowed: &[String]) -> bool
     false
 }
 
-// Whether a page of that origin may connect: it is of this machine, or one of those that are allowed.
-fn may_connect(origin: &str, allowed: &[String]) -> bool
+/// Whether a page of that origin may connect: it is of this machine, or one of those that are allowed.
+pub fn may_connect(origin: &str, allowed: &[String]) -> bool
     ensures { result ≡ may_connect origin.now (map string_bytes allowed.now) }
 {
     is_local(origin) || is_among(origin, allowed)
