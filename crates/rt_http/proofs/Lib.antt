@@ -1,0 +1,10 @@
+mod ChunkSteps
+mod Digits
+mod Entries
+mod Heads
+mod Judged
+mod Outcomes
+mod Paths
+mod Puts
+mod Texts
+mod Values
