@@ -3,7 +3,7 @@ ghost use Rattle.std.specs.Prelude.{◌≡◌};
 ghost use Rattle.rt_journal.specs.Faults.{code_of, name_of};
 ghost use Rattle.rt_journal.specs.declared.fault.JournalFault.TheVariants.{NoMemory};
 
-use rt_tree::TreeError;
+use crate::trouble::Trouble;
 use std::alloc::{AllocError, AllocFailed, Global};
 use std::{fmt, io};
 use thiserror::Error;
@@ -16,7 +16,7 @@ pub enum JournalFault {
     #[error("the tree's file {file} can't be read: {why}")]
     Unread { file: String, why: io::Error },
     #[error("the tree's file {file} has no tree: {why}")]
-    NoTree { file: String, why: TreeError },
+    NoTree { file: String, why: Trouble },
     #[error("{file} has a line that is none of a journal")]
     BadLine { file: String },
     #[error("the tree's file {file} can't be written: {why}")]
@@ -59,7 +59,7 @@ impl JournalFault {
         }
     }
 
-    pub(crate) fn no_tree(alloc: Global, file: &str, why: TreeError) -> JournalFault {
+    pub(crate) fn no_tree(alloc: Global, file: &str, why: Trouble) -> JournalFault {
         match String::from_str(alloc, file) {
             Ok(file) => JournalFault::NoTree { file, why },
             Err(_) => JournalFault::NoMemory,

@@ -21,8 +21,9 @@ use crate::place::{
 };
 use crate::replay::{Replayed, replay_over};
 use crate::stamp::{Stamp, stamp_at};
+use crate::trouble::trouble_in;
 use crate::whole::read_whole;
-use rt_tree::{Tree, TreeError};
+use rt_tree::Tree;
 use std::alloc::{AllocError, AllocGlobal, Global};
 use std::fs::{File, Metadata};
 use std::io::{ErrorKind, Read, Write};
@@ -217,8 +218,25 @@ fn text_of<Y: Files<File = File>>(
 fn tree_of(alloc: Global, file: &str, text: &str) -> Result<Tree, JournalFault> {
     match read_whole(alloc, text) {
         Ok(tree) => Ok(tree),
-        Err(TreeError::NoMemory) => Err(JournalFault::NoMemory),
-        Err(why) => Err(JournalFault::no_tree(alloc, file, why)),
+        Err(why) => Err(JournalFault::no_tree(alloc, file, trouble_in(alloc, text, why)?)),
+    }
+}
+
+/// The tree of a file, which is read once and left as it is.
+///
+/// # Errors
+///
+/// `Unread` where the file isn't there or can't be read, `NoTree` where it has no tree, each with the file's
+/// name; `NoMemory` where memory is lacking.
+pub fn tree_in<Y: Files<File = File> + AllocGlobal>(
+    system: &Y,
+    file: &str,
+) -> Result<Tree, JournalFault> {
+    let alloc = system.alloc();
+    match text_of(system, alloc, file) {
+        Ok(Some((text, _))) => tree_of(alloc, file, text.as_str()),
+        Ok(None) => Err(JournalFault::unread(alloc, file, io::Error::from(ErrorKind::NotFound))),
+        Err(why) => Err(JournalFault::unread(alloc, file, why)),
     }
 }
 

@@ -29,6 +29,7 @@ mod notice;
 mod place;
 mod replay;
 mod stamp;
+mod trouble;
 mod whole;
 
 pub use book::Noted;
@@ -36,7 +37,8 @@ pub use crossing::crossing_law;
 pub use due::{BYTES_A_MS, LEAST_PAUSE_MS};
 pub use entry::LineFault;
 pub use fault::JournalFault;
-pub use journal::{Journal, Opened};
+pub use journal::{Journal, Opened, tree_in};
 pub use laws::reading_law;
 pub use notice::Notice;
 pub use replay::{Replayed, replay_over};
+pub use trouble::Trouble;
