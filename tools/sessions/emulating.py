@@ -31,7 +31,7 @@ class Emulator:
     """A program that emulates, once it says that it listens. Its standard input is open until `end`, which ends it. One that is told by a signal to
     stop has no input, and is begun as ./kaltewi begins it."""
 
-    def __init__(self, program, *words, files=None, by_signal=False, at="127.0.0.1"):
+    def __init__(self, program, *words, files=None, by_signal=False, at="127.0.0.1", env=None):
         self.port = free_port()
 
         def begin():
@@ -40,6 +40,7 @@ class Emulator:
                 resource.setrlimit(resource.RLIMIT_NOFILE, (files, files))
 
         pipes = {"stdin": subprocess.DEVNULL if by_signal else subprocess.PIPE, "stdout": subprocess.PIPE, "stderr": subprocess.PIPE}
+        pipes["env"] = {**os.environ, **(env or {})}
         how = [sys.executable, "-B", HELD, program] if by_signal else [program]
         end = [] if by_signal else ["--until-eof"]
         self.ran = subprocess.Popen([*how, "emulate", str(self.port), *end, *words], preexec_fn=begin, **pipes)
@@ -276,7 +277,8 @@ def origins_are_asked_for(program, _room):
     may_not += ["file://localhost", "ftp://localhost", "", "https://app.example:1"]
     with Emulator(program, "--origin", "https://app.example", "--origin", "null") as it:
         wanted = [([it], 101) for it in [*may, "null"]] + [([it], 403) for it in may_not]
-        for origins, status in [*wanted, ([], 101), (["http://localhost", "https://app.example"], 403)]:
+        # two of them make no head of a request
+        for origins, status in [*wanted, ([], 101), (["http://localhost", "https://app.example"], 400)]:
             with socket.create_connection(("127.0.0.1", it.port), timeout=SECONDS) as stream:
                 must(f"a page of {origins}", answered(stream, *origins), b"HTTP/1.1 %d" % status)
         it.tells("is no WebSocket: a page of http://evil.example may not connect")
@@ -569,11 +571,11 @@ LINE = re.compile(r"kaltewi: \d{4}-\d\d-\d\dT\d\d:\d\d:\d\dZ \[(all|connections|
 
 
 def lines_have_one_form(program, _room):
-    """Each line has the time, its level and what is said."""
+    """Each line has the time, its level and what is said, without what a terminal obeys."""
     begun = time.time()
     with Emulator(program, "--host", "0.0.0.0", at="0.0.0.0") as it:
         client = Client(it.port)
-        client.frame(TEXT, b"x")
+        client.frame(TEXT, "a\u202eb\x9bc\u2028".encode())
         must("a write", asked(client, put(1, "/a", 1)), ok(1))
         must("how it ends", it.end(), (0, b""))
     found = [LINE.fullmatch(line.decode()) for line in it.saying.lines]
@@ -581,6 +583,8 @@ def lines_have_one_form(program, _room):
     levels = {"whoever reaches": "faults", "connection 1 begins": "connections", "connection 1: ": "all", "connection 1 ends": "connections"}
     for start, level in levels.items():
         must(f"the level of {start!r}", {one[1] for one in found if one[2].startswith(start)}, {level})
+    texts = [one[2] for one in found if "NotJson" in one[2]]
+    must("a text that turns letters", texts, [r"connection 1: a text is passed over: 1 NotJson: a\u{202e}b c\u{2028}"])
     for line in it.saying.lines:
         said = calendar.timegm(time.strptime(line[9:29].decode(), "%Y-%m-%dT%H:%M:%SZ"))
         must("whether the time is right", begun - 2 <= said <= time.time() + 2, True)

@@ -36,9 +36,9 @@ def kill(emulator):
     emulator.ran.wait(SECONDS)
 
 
-def refused(program, file, *parts):
+def refused(program, file, *parts, word="--file"):
     """An emulator that doesn't begin says why in one line."""
-    words = [program, "emulate", str(free_port()), "--file", file]
+    words = [program, "emulate", str(free_port()), word, file]
     ran = subprocess.run(words, stdin=subprocess.DEVNULL, capture_output=True, timeout=SECONDS)
     lines = ran.stderr.decode(errors="replace").splitlines()
     must("how it ends", (ran.returncode, ran.stdout, len(lines)), (1, b"", 1))
@@ -201,6 +201,53 @@ def torn_lines_are_passed_over(program, room):
     must("what is there", (tree_in(file), open(f"{file}.log", encoding="utf-8").read()), ({"a": 1, "c": 3}, "1 nothing\n"))
 
 
+# texts that have no tree, and what is said of each
+NO_TREES = [
+    ("", "it is empty"),
+    (" \n\n", "it is empty"),
+    ("\ufeff{}", "it begins with a byte order mark"),
+    ('{"a":1', "line 1, column 6: it ends here, within a value"),
+    ('{"a":1,\n "b":\n', "line 3, column 1: it ends here, within a value"),
+    ('{"a":1,\n\t"b":x}', "line 2, column 6: this is no JSON"),
+    ('{"a":1,\n "users": {\n  "ann": {"age": 3,\n    "height" : 1.5}}}', "line 4, column 16, /users/ann/height: a number must be whole"),
+    ('{"a":{"b":[1,{"c":"x"},[true,9007199254740992]]}}', "line 1, column 30, /a/b/2/1: a number must be whole"),
+    ('{"a":1,\r\n"b":{"c.d":2}}', "line 2, column 6, /b: a key must have at least one byte"),
+    ('{"a":{"b":1,"":2}}', "line 1, column 13, /a: a key must have at least one byte"),
+    ('{"a":[],"b":"%s"}' % ("x" * 65_537), "line 1, column 13, /b: a text must have at most 65536 bytes"),
+    ('{"a":' * 33 + "1" + "}" * 33, f"line 1, column 166, {'/a' * 33}: a path must have at most 32 keys"),
+]
+
+
+def what_has_no_tree_is_said(program, room):
+    """A file that has no tree is refused and left as it is, and why and where is said; a seed too."""
+    file = f"{room}/tree.json"
+    for text, why in NO_TREES:
+        write_file(file, text)
+        before = kept(file)
+        refused(program, file, f"tree.json has no tree: {why}")
+        refused(program, file, f"tree.json has no tree: {why}", word="--seed")
+        must("the file", kept(file), before)
+
+
+def seeds_are_never_written(program, room):
+    """A tree comes from its seed, which stays as it is; it goes to the file, where there is one, which then comes first."""
+    seed, file = f"{room}/seed.json", f"{room}/tree.json"
+    write_file(seed, '{"a":\n1}')
+    before = kept(seed)
+    with Emulator(program, "--seed", seed) as it:
+        must("what is there", shown(it.port), {"a": 1})
+        must("a write", asked(Client(it.port), put(1, "/b", 2)), ok(1))
+        must("how it ends", it.end(), (0, b""))
+    for turn in range(2):
+        with Emulator(program, "--seed", seed, "--file", file) as it:
+            must("what is there", shown(it.port), {"a": 1} | ({"c": 3} if turn else {}))
+            must("a write", asked(Client(it.port), put(1, "/c", 3)), ok(1))
+            must("how it ends", it.end(), (0, b""))
+    must("the seed", kept(seed), before)
+    must("what is there", (sorted(os.listdir(room)), tree_in(file)), (["seed.json", "tree.json"], {"a": 1, "c": 3}))
+    refused(program, f"{room}/none.json", "none.json can't be read", word="--seed")
+
+
 def what_cannot_be_written_is_said(program, room):
     """A folder that isn't there, a journal that is a link or a fifo, and a file that is a folder are said at the start."""
     victim = f"{room}/victim"
@@ -296,6 +343,8 @@ SESSIONS = [
     second_is_refused,
     other_programs_are_let_be,
     torn_lines_are_passed_over,
+    what_has_no_tree_is_said,
+    seeds_are_never_written,
     what_cannot_be_written_is_said,
     texts_come_back_as_they_came,
     what_is_synced_is_there,

@@ -1,8 +1,8 @@
 mod Alarms
 mod Begun
-mod Behind
 mod CrowdLaws
 mod LeavingLaws
-mod Named
 mod Parameters
+mod PlainLaws
 mod Sockets
+mod Texts

@@ -10,6 +10,7 @@ use Rattle.rt_emulate.specs.declared.level.Level.{Level}
 use Rattle.rt_emulate.specs.declared.level.Kind.{Kind}
 use Rattle.rt_emulate.specs.declared.diary.TheConstants.{MOST_BYTES}
 use Rattle.rt_emulate.specs.Levels.{says, word_of}
+use Rattle.rt_emulate.specs.Plains.{plain}
 
 -- ---- times
 
@@ -57,7 +58,7 @@ pub record Diary : Type 0 where
 
 -- a line as it is written
 abbrev pub line_of : Kind → List ℕ → List ℕ → List ℕ
-line_of k time text = codes "kaltewi: " ++ time ++ codes " [" ++ word_of k ++ codes "] " ++ text ++ 10 ∷ []
+line_of k time text = codes "kaltewi: " ++ time ++ codes " [" ++ word_of k ++ codes "] " ++ plain text ++ 10 ∷ []
 
 -- a line waits behind the others
 abbrev pub with_line : List ℕ → Diary → Diary

@@ -1,9 +1,13 @@
 pub mod Alarms
+pub mod Asking
 pub mod Crowds
 pub mod Endings
 pub mod Guests
 pub mod Keeping
 pub mod Leaving
+pub mod Paces
 pub mod Places
+pub mod Replays
+pub mod Requests
 pub mod Silences
 pub mod Sockets

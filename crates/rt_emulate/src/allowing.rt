@@ -6,7 +6,7 @@ ghost use Rattle.rt_emulate.specs.Origins.{begins_path, begins_small, behind_hos
 ghost use Rattle.rt_emulate.specs.Origins.{is_no_host_letter, is_of_scheme, origin_fault, place_fault};
 ghost use Rattle.rt_emulate.specs.Origins.{scheme_fault};
 
-use crate::origin::is_port;
+use rt_socket::is_port;
 use std::fmt;
 
 /// Why no browser writes a text as an origin, so that none of its pages could connect.

@@ -1,6 +1,6 @@
 // Why a socket failed.
 ghost use Rattle.std.specs.Prelude.{◌≡◌};
-ghost use Rattle.rt_emulate.specs.inside.Endings.{broken_code, broken_of, done_of, is_spent, lacks_memory};
+ghost use Rattle.rt_emulate.specs.inside.Endings.{broken_code, broken_of, done_of, is_interrupted, is_spent, lacks_memory};
 ghost use Rattle.rt_emulate.specs.inside.Endings.{of_stream, would_block};
 
 use std::io::ErrorKind;
@@ -88,6 +88,13 @@ impl Broken {
         ensures { result ≡ would_block self }
     {
         matches!(self, Broken::Stream(ErrorKind::WouldBlock, _))
+    }
+
+    /// Whether a signal came between.
+    pub(crate) fn is_interrupted(self) -> bool
+        ensures { result ≡ is_interrupted self }
+    {
+        matches!(self, Broken::Stream(ErrorKind::Interrupted, _))
     }
 
     /// Whether as many bytes were read as are read in one turn.

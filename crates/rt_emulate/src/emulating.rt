@@ -1,5 +1,5 @@
 // What an emulator is to do.
-ghost use Rattle.std.specs.Prelude.{◌≡◌, ◌∷◌, [], map, option_map, string_bytes};
+ghost use Rattle.std.specs.Prelude.{◌≡◌, ◌∷◌, [], None, map, option_map, string_bytes};
 ghost use Rattle.std.specs.Net.Addr.{IsV4And, ipv4_octets};
 
 use rt_tree::{Path, Tree};
@@ -13,6 +13,7 @@ pub struct Emulating {
     pub(crate) port: u16,
     pub(crate) count: Option<u16>,
     pub(crate) tree: Tree,
+    pub(crate) seed: Option<String>,
     pub(crate) file: Option<String>,
     pub(crate) is_synced: bool,
     pub(crate) denied: Vec<Path>,
@@ -26,6 +27,7 @@ impl Drop for Emulating {
             port: _,
             count: _,
             tree: _,
+            seed: _,
             file: _,
             is_synced: _,
             denied: _,
@@ -45,6 +47,7 @@ impl Model for Emulating {
       port = e.port;
       count = e.count;
       tree = e.tree;
+      seed = option_map string_bytes e.seed;
       file = option_map string_bytes e.file;
       is_synced = e.is_synced;
       denied = e.denied.items;
@@ -72,6 +75,7 @@ impl Emulating {
           port = port;
           count = count;
           tree = tree;
+          seed = None;
           file = option_map string_bytes file;
           is_synced = is_synced;
           denied = denied.items;
@@ -83,6 +87,7 @@ impl Emulating {
             port,
             count,
             tree,
+            seed: None,
             file,
             is_synced,
             denied,
@@ -99,6 +104,14 @@ impl Emulating {
         self
     }
 
+    /// The first tree is that of the seed, where there is one: a file that is read once, and never written.
+    pub fn seeded(mut self, seed: Option<String>) -> Emulating
+        ensures { result ≡ record self { seed = option_map string_bytes seed } }
+    {
+        self.seed = seed;
+        self
+    }
+
     // The tree, the paths that are denied, and the origins.
     pub(crate) fn into_parts(self) -> (Tree, Vec<Path>, Vec<String>)
         ensures { (result.0 ≡ self.tree) × (result.1.items ≡ self.denied)
@@ -109,6 +122,7 @@ impl Emulating {
             port: _,
             count: _,
             tree: first,
+            seed: _,
             file: _,
             is_synced: _,
             denied: paths,

@@ -11,12 +11,13 @@ use crate::fault::EmulateFault;
 use crate::guests::Guests;
 use crate::halt::Halt;
 use crate::keeper::{Keeper, say};
+use crate::keys::Keys;
 use crate::level::Kind;
 use crate::pen::Pen;
 use crate::telling;
 use mio::net::TcpStream;
 use rt_hub::{Bounds, Hub};
-use rt_journal::Journal;
+use rt_journal::{Journal, tree_in};
 use rt_tree::Tree;
 use std::alloc::{AllocGlobal, Global};
 use std::fs::File;
@@ -65,6 +66,17 @@ impl Drop for Emulator {
     }
 }
 
+// The first tree is that of the seed, if there is one.
+fn sow<Y>(system: &Y, emulating: &mut Emulating) -> Result<(), EmulateFault>
+where
+    Y: Files<File = File> + AllocGlobal,
+{
+    if let Some(seed) = emulating.seed.take() {
+        emulating.tree = tree_in(system, seed.as_str())?;
+    }
+    Ok(())
+}
+
 // The journal of the file that the tree is kept in, if there is one. Its tree is the first one then.
 fn journal_of<Y>(
     system: &Y,
@@ -104,19 +116,20 @@ fn guests_of(
     alloc: Global,
     emulating: Emulating,
     journal: Option<Journal>,
+    keys: Keys,
     is_telling: bool,
 ) -> Guests {
     let (tree, denied, origins) = emulating.into_parts();
     let hub = Hub::new(alloc, tree, denied, Bounds::full());
-    Guests::new(alloc, hub, Keeper::new(journal), origins, is_telling)
+    Guests::new(alloc, hub, Keeper::new(journal), keys, origins, is_telling)
 }
 
 impl Emulator {
-    /// Reads the file, if there is one, and waits at the port: from here on clients can connect.
+    /// Reads the seed and the file, if there are such, and waits at the port: from here on clients can connect.
     ///
     /// # Errors
     ///
-    /// `NotKept` where the file can't be read or written, has no tree, or is another emulator's, `NotBound`
+    /// `NotKept` where a file can't be read or written, has no tree, or is another emulator's, `NotBound`
     /// where the port can't be bound, `NotWaited` where the system has nothing to wait with, each with the
     /// reason; `NoMemory` where memory is lacking.
     pub fn open<R, Y>(
@@ -133,12 +146,19 @@ impl Emulator {
         let (host, count) = (emulating.host, emulating.count);
         let address = SocketAddr::new(host, emulating.port);
         let edge = Edge::open(rt, system, alloc, address)?;
+        sow(system, &mut emulating)?;
         let journal = journal_of(system, &mut emulating, log)?;
         telling::listening(alloc, log, address);
         Ok(Emulator {
             alloc,
             edge,
-            guests: guests_of(alloc, emulating, journal, log.says(Kind::Message)),
+            guests: guests_of(
+                alloc,
+                emulating,
+                journal,
+                Keys::begin(system),
+                log.says(Kind::Message),
+            ),
             count,
             now: 0,
             has_visitor: false,
@@ -264,7 +284,7 @@ impl Emulator {
             self.let_in(log)?;
         }
         let count = self.guests.present.all.len();
-        self.guests.turn_all(log)?;
+        self.guests.turn_all(self.now, log)?;
         self.guests.ring_all(self.now, log)?;
         self.guests.leave_on()?;
         if self.guests.present.all.len() < count || gone < self.guests.gone {

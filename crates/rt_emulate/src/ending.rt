@@ -2,11 +2,12 @@
 ghost use Rattle.std.specs.Prelude.{◌≡◌, false};
 ghost use Rattle.std.specs.Option.{option_map_or};
 ghost use Rattle.rt_hub.specs.Hubs.{has_too_many_in, line_in};
-ghost use Rattle.rt_emulate.specs.inside.Endings.{close_code, close_reason, is_told, too_much};
+ghost use Rattle.rt_emulate.specs.inside.Endings.{close_code, close_reason, is_told, stream_ending, too_much};
 
 use crate::broken::Broken;
 use crate::silence::{HANDSHAKE_MS, SILENCE_MS};
 use rt_hub::{Hub, MAX_LISTENS, MAX_WAITING_BYTES, MAX_WAITING_IN_ALL, MAX_WAITING_MESSAGES};
+use rt_socket::or_unknown;
 use std::fmt;
 
 /// Why a guest goes.
@@ -28,16 +29,20 @@ pub(crate) enum Ending {
     Silent,
     /// It didn't shake hands in time.
     Unshaken,
+    /// It has asked by plain HTTP, and was answered.
+    Answered,
+    /// It has begun to ask, or was answered, and nothing comes on.
+    Stalled,
     /// All are ended.
     Stopped,
 }
 
 impl Ending {
-    /// Whether it was told before the guest goes.
+    /// Whether nothing is told once the guest goes: it was told before, or all went well.
     pub(crate) fn is_told(self) -> bool
         ensures { result ≡ is_told self }
     {
-        matches!(self, Ending::Refused)
+        matches!(self, Ending::Refused | Ending::Answered)
     }
 
     /// The code that RFC 6455 (section 7.4.1) has for the client, where it is told why: as at
@@ -51,7 +56,12 @@ impl Ending {
             Ending::Stopped => Some(1001),
             Ending::TooManyListens => Some(1008),
             Ending::Over | Ending::Crowding => Some(1013),
-            Ending::Closed(_) | Ending::Refused | Ending::Silent | Ending::Unshaken => None,
+            Ending::Closed(_)
+            | Ending::Refused
+            | Ending::Silent
+            | Ending::Unshaken
+            | Ending::Answered
+            | Ending::Stalled => None,
         }
     }
 
@@ -68,8 +78,21 @@ impl Ending {
             | Ending::Refused
             | Ending::Silent
             | Ending::Unshaken
+            | Ending::Answered
+            | Ending::Stalled
             | Ending::Stopped => "",
         }
+    }
+}
+
+/// Why one goes whose stream has ended so, that has asked by plain HTTP or hasn't.
+pub(crate) fn stream_ending(has_asked: bool, why: Broken) -> Ending
+    ensures { result ≡ stream_ending has_asked why }
+{
+    if has_asked {
+        Ending::Answered
+    } else {
+        Ending::Failed(why)
     }
 }
 
@@ -99,7 +122,9 @@ impl fmt::Display for Ending {
     fn fmt<W: fmt::Write>(&self, f: &mut fmt::Formatter<W>) -> fmt::Result {
         match self {
             Ending::Closed(None) => f.write_str("the client closed it"),
-            Ending::Closed(Some(code)) => write!(f, "the client closed it with {code}"),
+            Ending::Closed(Some(code)) => {
+                write!(f, "the client closed it with {code}{}", or_unknown(*code))
+            }
             Ending::Failed(why) => write_broken(f, *why),
             Ending::Refused => f.write_str("its handshake failed"),
             Ending::Over => write!(
@@ -120,6 +145,8 @@ impl fmt::Display for Ending {
                 "nothing is heard of it, for {SILENCE_MS} ms after a ping"
             ),
             Ending::Unshaken => write!(f, "no handshake in {HANDSHAKE_MS} ms"),
+            Ending::Answered => f.write_str("it was answered"),
+            Ending::Stalled => f.write_str("its request or its answer stands still"),
             Ending::Stopped => f.write_str("the server stops; it is closed with 1001"),
         }
     }

@@ -1,14 +1,9 @@
 // Worked rows.
-ghost use Rattle.rt_emulate.specs.laws.Examples.{AllowedOnes, LocalOnes, NotAllowedOnes, OtherOnes};
-ghost use Rattle.rt_emulate.specs.laws.Examples.{OthersAreNoSdks, SdksAreKnown, UnwrittenOnes, WrittenOnes};
+ghost use Rattle.rt_emulate.specs.laws.Examples.{HiddenOnes, NumberedOnes, OthersAreNoSdks, SdksAreKnown, ShownOnes};
+ghost use Rattle.rt_emulate.specs.laws.Examples.{UnwrittenOnes, WrittenOnes};
 
-/// Pages of this machine may connect, at any port, and those that are allowed; no others. What browsers write
-/// as an origin has no fault, and what none writes has the stated one.
+/// What browsers write as an origin has no fault, and what none writes has the stated one.
 pub fn origin_examples()
-    ensures local { LocalOnes }
-    ensures others { OtherOnes }
-    ensures allowed { AllowedOnes }
-    ensures not_allowed { NotAllowedOnes }
     ensures written { WrittenOnes }
     ensures unwritten { UnwrittenOnes }
 {}
@@ -17,4 +12,12 @@ pub fn origin_examples()
 pub fn protocol_examples()
     ensures sdks { SdksAreKnown }
     ensures others { OthersAreNoSdks }
+{}
+
+/// Control characters, and marks of the order of letters, stand in a line by their numbers; letters stand as they
+/// are.
+pub fn line_examples()
+    ensures hidden { HiddenOnes }
+    ensures shown { ShownOnes }
+    ensures numbered { NumberedOnes }
 {}

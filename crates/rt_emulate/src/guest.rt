@@ -1,18 +1,20 @@
-// One that has come: a stream, before and after its handshake.
+// One that has come: a stream that asks, shakes hands or is a connection.
 ghost use Rattle.std.specs.Prelude.{◌≡◌, IfOk, OnOk, Some, None, false, if◌then◌else◌, is_some};
 ghost use Rattle.std.specs.Option.{option_copied_mut, option_map};
 ghost use Rattle.rt_hub.specs.Hubs.{IsMade};
 ghost use Rattle.rt_peer.specs.Runs.{Connect};
 ghost use Rattle.rt_emulate.specs.inside.Crowds.{Counts};
-ghost use Rattle.rt_emulate.specs.inside.Guests.{HandsAs, HearsAs, number_of, rung, silence_after, talk_of};
+ghost use Rattle.rt_emulate.specs.inside.Guests.{HandsAs, HearsAs, asking_of, number_of, rung, silence_after, talk_of};
 ghost use Rattle.rt_emulate.specs.inside.Guests.{blocked_by, is_more, unblocked};
 
+use crate::asking::Asking;
 use crate::broken::Broken;
 use crate::diary::Diary;
 use crate::ending::Ending;
 use crate::halt::Halt;
 use crate::on_way::OnWay;
-use crate::origin::Origins;
+use crate::origin::Judge;
+use crate::replay::Replay;
 use crate::silence::{Due, SILENCE_MS, Silence};
 use crate::socket::{Socket, TURN_BYTES, limits};
 use crate::telling;
@@ -37,10 +39,12 @@ pub(crate) enum Turned {
 }
 
 /// A handshake that has begun.
-pub(crate) type Shaking = MidHandshake<ServerHandshake<Counted<TcpStream>, Origins>>;
+pub(crate) type Shaking = MidHandshake<ServerHandshake<Counted<Replay>, Judge>>;
 
 /// How far a guest is.
 pub(crate) enum Stage {
+    /// It asks by plain HTTP, or has said nothing yet.
+    Asking(Asking),
     /// It shakes hands.
     Shaking(Shaking),
     /// It is a connection of the hub.
@@ -52,17 +56,25 @@ pub(crate) enum Stage {
 impl Drop for Stage {
     fn drop(self) {
         match self {
-            Stage::Shaking(_) | Stage::Open(_) | Stage::Gone => {}
+            Stage::Asking(_) | Stage::Shaking(_) | Stage::Open(_) | Stage::Gone => {}
         }
     }
 }
 
 impl Stage {
+    // One that asks, if that is where it is.
+    fn into_asking(self) -> Option<Asking> {
+        match self {
+            Stage::Asking(asking) => Some(asking),
+            Stage::Shaking(_) | Stage::Open(_) | Stage::Gone => None,
+        }
+    }
+
     // Its handshake, if that is where it is.
     fn into_shaking(self) -> Option<Shaking> {
         match self {
             Stage::Shaking(shaking) => Some(shaking),
-            Stage::Open(_) | Stage::Gone => None,
+            Stage::Asking(_) | Stage::Open(_) | Stage::Gone => None,
         }
     }
 }
@@ -227,15 +239,12 @@ impl Guest {
     pub(crate) fn new(
         alloc: Global,
         stream: TcpStream,
-        origins: Origins,
         from: SocketAddr,
         serial: u64,
         now: u64,
     ) -> Guest {
-        let stream = Counted::new(stream, TURN_BYTES);
-        let shaking = server::start(alloc, stream, origins, Some(limits()));
         Guest {
-            stage: Stage::Shaking(shaking),
+            stage: Stage::Asking(Asking::new(alloc, stream, now)),
             from,
             serial,
             silence: Silence::broken(now),
@@ -250,7 +259,17 @@ impl Guest {
     {
         match &mut self.stage {
             Stage::Open(talk) => Some(talk),
-            Stage::Shaking(_) | Stage::Gone => None,
+            Stage::Asking(_) | Stage::Shaking(_) | Stage::Gone => None,
+        }
+    }
+
+    /// One that asks, if that is where it is.
+    pub(crate) fn asking(&mut self) -> Option<&mut Asking>
+        ensures { option_copied_mut result ≡ asking_of self.old.stage }
+    {
+        match &mut self.stage {
+            Stage::Asking(asking) => Some(asking),
+            Stage::Shaking(_) | Stage::Open(_) | Stage::Gone => None,
         }
     }
 
@@ -282,8 +301,19 @@ impl Guest {
                 talk.socket.begin_turn();
                 true
             }
-            Stage::Shaking(_) | Stage::Gone => false,
+            Stage::Asking(_) | Stage::Shaking(_) | Stage::Gone => false,
         }
+    }
+
+    /// One that asks shakes hands from now on: the head of its handshake has so many bytes.
+    pub(crate) fn upgrade(&mut self, alloc: Global, size: usize, judge: Judge) -> Result<(), Halt> {
+        let stage = std::mem::replace(&mut self.stage, Stage::Gone);
+        let Some(asking) = stage.into_asking() else {
+            return Ok(());
+        };
+        let stream = Counted::new(asking.into_replay(size)?, TURN_BYTES);
+        self.stage = Stage::Shaking(server::start(alloc, stream, judge, Some(limits())));
+        Ok(())
     }
 
     // Its handshake, if it shakes hands: it is to be given back.
@@ -343,17 +373,18 @@ impl Guest {
         ensures rung { result ≡ rung self.old now }
         ensures silence { self.new.silence ≡ silence_after self.old now }
     {
-        let Stage::Open(talk) = &mut self.stage else {
-            return Err(Ending::Unshaken);
-        };
-        match self.silence.due(now) {
-            Due::End => Err(Ending::Silent),
-            Due::Ping => {
-                talk.socket.ping();
-                self.silence = self.silence.pinged(now);
-                Ok(now.saturating_add(SILENCE_MS))
-            }
-            Due::Later(wait) => Ok(now.saturating_add(wait)),
+        match &mut self.stage {
+            Stage::Asking(asking) => asking.ring(now),
+            Stage::Shaking(_) | Stage::Gone => Err(Ending::Unshaken),
+            Stage::Open(talk) => match self.silence.due(now) {
+                Due::End => Err(Ending::Silent),
+                Due::Ping => {
+                    talk.socket.ping();
+                    self.silence = self.silence.pinged(now);
+                    Ok(now.saturating_add(SILENCE_MS))
+                }
+                Due::Later(wait) => Ok(now.saturating_add(wait)),
+            },
         }
     }
 

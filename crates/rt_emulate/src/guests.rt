@@ -2,15 +2,17 @@
 ghost use Rattle.std.specs.Prelude.{IfOk};
 ghost use Rattle.rt_emulate.specs.inside.Guests.{HandsAt, talk_at};
 
+use crate::asking::Next;
 use crate::diary::Diary;
 use crate::ending::{Ending, too_much};
 use crate::fault::EmulateFault;
 use crate::guest::{Guest, Turned};
 use crate::halt::Halt;
 use crate::keeper::Keeper;
+use crate::keys::Keys;
 use crate::leaving::Leaving;
 use crate::on_way::OnWay;
-use crate::origin::Origins;
+use crate::origin::Judge;
 use crate::place::set_place;
 use crate::present::Present;
 use crate::telling;
@@ -26,6 +28,9 @@ use std::thread::Threads;
 
 // How many messages of one guest are taken in one turn.
 const TURN_MESSAGES: usize = 64;
+
+// How many reads, writes and answers there are in one turn of a guest that asks by plain HTTP.
+const TURN_STEPS: usize = 64;
 
 // After how many texts that were sent those that wait are handed over before the next message is taken.
 const MOST_SENT: usize = 4_096;
@@ -47,6 +52,9 @@ pub(crate) struct Guests {
     came: u64,
     pub(crate) gone: u64,
     keeper: Keeper,
+    keys: Keys,
+    // How many milliseconds have passed since the start.
+    now: u64,
 }
 
 impl Drop for Guests {
@@ -64,6 +72,8 @@ impl Drop for Guests {
             came: _,
             gone: _,
             keeper: _,
+            keys: _,
+            now: _,
         } = self;
     }
 }
@@ -74,6 +84,7 @@ impl Guests {
         alloc: Global,
         hub: Hub,
         keeper: Keeper,
+        keys: Keys,
         allowed: Vec<String>,
         is_telling: bool,
     ) -> Guests {
@@ -90,6 +101,8 @@ impl Guests {
             came: 0,
             gone: 0,
             keeper,
+            keys,
+            now: 0,
         }
     }
 
@@ -100,10 +113,7 @@ impl Guests {
         from: SocketAddr,
         now: u64,
     ) -> Result<(), Halt> {
-        let Ok(origins) = Origins::of(self.alloc, self.allowed.as_slice()) else {
-            return Err(Halt::NoMemory);
-        };
-        let guest = Guest::new(self.alloc, stream, origins, from, self.came, now);
+        let guest = Guest::new(self.alloc, stream, from, self.came, now);
         self.came = self.came.saturating_add(1);
         self.present.add(guest, now)
     }
@@ -117,7 +127,8 @@ impl Guests {
     }
 
     /// Each that is ready has a turn, and what waits is handed over.
-    pub(crate) fn turn_all(&mut self, log: &mut Diary) -> Result<(), Halt> {
+    pub(crate) fn turn_all(&mut self, now: u64, log: &mut Diary) -> Result<(), Halt> {
+        self.now = now;
         let ready = std::mem::replace(&mut self.present.ready, Vec::new(self.alloc));
         self.turn_each(ready.as_slice(), log)
     }
@@ -142,6 +153,17 @@ impl Guests {
         if guest.begin_turn() {
             return self.listen_to(place, log);
         }
+        if guest.asking().is_some() {
+            return self.hear_requests(place, log);
+        }
+        self.shake(place, log)
+    }
+
+    // The guest at that place goes on to shake hands.
+    fn shake(&mut self, place: usize, log: &mut Diary) -> Result<Turned, Halt> {
+        let Some(guest) = self.present.all.get_mut(place) else {
+            return Ok(Turned::Idle);
+        };
         match guest.shake(self.alloc, self.is_telling, log)? {
             Turned::More => {
                 let connection = guest.connect(self.alloc, &mut self.hub, log)?;
@@ -150,6 +172,69 @@ impl Guests {
             }
             turned => Ok(turned),
         }
+    }
+
+    // Takes what the guest at that place asks by plain HTTP in its turn.
+    fn hear_requests(&mut self, place: usize, log: &mut Diary) -> Result<Turned, Halt> {
+        let turned = self.hear_each(place, log)?;
+        if let Some(asking) = self.present.asking(place) {
+            asking.settle(self.now);
+        }
+        Ok(turned)
+    }
+
+    // Does what is next of the guest at that place, which asks, one step after another.
+    fn hear_each(&mut self, place: usize, log: &mut Diary) -> Result<Turned, Halt> {
+        for _ in 0..TURN_STEPS {
+            if let Some(turned) = self.hear_request(place, log)? {
+                return Ok(turned);
+            }
+        }
+        Ok(Turned::More)
+    }
+
+    // Does what is next of the guest at that place, which asks. Answers what became of its turn, if it is over.
+    fn hear_request(&mut self, place: usize, log: &mut Diary) -> Result<Option<Turned>, Halt> {
+        let Some(asking) = self.present.asking(place) else {
+            return Ok(Some(Turned::Idle));
+        };
+        match asking.next()? {
+            Next::Again => Ok(None),
+            Next::Idle => Ok(Some(Turned::Idle)),
+            Next::Answer => self.answer_request(place, log),
+            Next::Upgrade(size) => Ok(Some(self.upgrade(place, size, log)?)),
+            Next::Ends(why) => Ok(Some(Turned::Ends(why))),
+        }
+    }
+
+    // Answers the request of the guest at that place. Answers what became of its turn, if it is over.
+    fn answer_request(&mut self, place: usize, log: &mut Diary) -> Result<Option<Turned>, Halt> {
+        let Some(asking) = self.present.asking(place) else {
+            return Ok(Some(Turned::Idle));
+        };
+        asking.answer(
+            &mut self.hub,
+            &mut self.keeper,
+            &mut self.notes.told,
+            &mut self.keys,
+            self.allowed.as_slice(),
+            self.now,
+        )?;
+        let is_long = asking.is_long();
+        self.note_told()?;
+        if self.sent >= MOST_SENT || self.on_way.is_crowded(&self.hub) {
+            self.hand_over_all(log)?;
+        }
+        Ok(if is_long { Some(Turned::More) } else { None })
+    }
+
+    // The guest at that place, which asks, shakes hands: the head of its handshake has so many bytes.
+    fn upgrade(&mut self, place: usize, size: usize, log: &mut Diary) -> Result<Turned, Halt> {
+        let judge = Judge::of(self.alloc, self.allowed.as_slice())?;
+        if let Some(guest) = self.present.all.get_mut(place) {
+            guest.upgrade(self.alloc, size, judge)?;
+        }
+        self.shake(place, log)
     }
 
     // Takes what the guest at that place has to say in its turn.
@@ -385,8 +470,17 @@ impl Guests {
     // All go.
     fn remove_all(&mut self, log: &mut Diary) -> Result<(), Halt> {
         for place in 0..self.present.all.capacity() {
-            self.remove(place, Ending::Stopped, log)?;
+            let why = self.stopped(place);
+            self.remove(place, why, log)?;
         }
         Ok(())
+    }
+
+    // Why the guest at that place goes where all are ended.
+    fn stopped(&mut self, place: usize) -> Ending {
+        match self.present.asking(place) {
+            Some(asking) => asking.stopped(),
+            None => Ending::Stopped,
+        }
     }
 }

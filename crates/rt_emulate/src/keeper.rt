@@ -2,7 +2,7 @@
 ghost use Rattle.std.specs.Prelude.{◌≡◌, OnOk};
 ghost use Rattle.std.specs.Option.{option_map};
 ghost use Rattle.rt_journal.specs.Journals.{appended};
-ghost use Rattle.rt_emulate.specs.inside.Keeping.{note_all, note_end, note_turn, noted_of};
+ghost use Rattle.rt_emulate.specs.inside.Keeping.{note_all, note_end, note_text, note_turn, noted_of};
 
 use crate::diary::Diary;
 use crate::fault::EmulateFault;
@@ -74,6 +74,17 @@ impl Keeper {
     {
         match &mut self.journal {
             Some(journal) => note_each(journal, connection, all),
+            None => Ok(()),
+        }
+    }
+
+    /// Notes a request of the connection, which was accepted.
+    pub(crate) fn note_one(&mut self, connection: u64, when: When, text: &str) -> Result<(), Halt>
+        ensures { OnOk result (self.new.journal
+            ≡ option_map (note_text connection when text.now) self.old.journal) }
+    {
+        match &mut self.journal {
+            Some(journal) => Ok(journal.note(connection, noted(when), text)?),
             None => Ok(()),
         }
     }

@@ -1,17 +1,11 @@
-// Which web pages may connect.
-ghost use Rattle.std.specs.Prelude.{◌≡◌, ◌&&◌, map, string_bytes, option_copied, IfOk};
-ghost use Rattle.std.specs.Char.{is_ascii_digit};
-ghost use Rattle.std.specs.List.{list_all, list_any};
-ghost use Rattle.std.specs.Option.{is_none, option_map};
-ghost use Rattle.std.specs.Result.{result_ok};
-ghost use Rattle.std.specs.Str.{bytes_eq};
-ghost use Rattle.http.specs.Response.{body_of, head_of};
-ghost use Rattle.rt_emulate.specs.Handshakes.{IsAnswer, IsAnswered, handshake_of, page_refusal, refusal_of};
-ghost use Rattle.rt_emulate.specs.Handshakes.{IsAnsweredBy, sdk_refusal, shown};
-ghost use Rattle.rt_emulate.specs.Origins.{allows, is_local, is_page_of, is_port, may_connect, visible_in};
+// Which handshakes come about: those of pages that may connect, and none of a Firebase SDK.
+ghost use Rattle.std.specs.Prelude.{◌≡◌, map, string_bytes, IfOk};
+ghost use Rattle.rt_socket.specs.Handshakes.{IsAnswer, IsAnswered, IsAnsweredBy};
+ghost use Rattle.rt_emulate.specs.Handshakes.{handshake_of, refusal_of, sdk_refusal};
 
 use crate::protocol::is_of_sdk;
-use http::{HeaderValue, Request, Response, StatusCode};
+use http::{Request, Response, StatusCode};
+use rt_socket::Origins;
 use std::alloc::{AllocError, Global};
 use std::marker::Model;
 use tungstenite::handshake::server::{Callback, ErrorResponse};
@@ -20,170 +14,36 @@ use tungstenite::handshake::server::{Callback, ErrorResponse};
 const OTHER_PROTOCOL: &str =
     "a Firebase SDK speaks another protocol than this server, which speaks that of docs/FORMATS.md";
 
-// Whether there are digits alone.
-fn are_digits(text: &[u8]) -> bool
-    ensures { result ≡ list_all is_ascii_digit text.now }
-{
-    for byte in text {
-        if !byte.is_ascii_digit() {
-            return false;
-        }
-    }
-    true
-}
-
-/// Whether nothing or a port stands there.
-pub(crate) fn is_port(text: &[u8]) -> bool
-    ensures { result ≡ is_port text.now }
-{
-    match text.split_first() {
-        Some((colon, digits)) => *colon == b':' && !digits.is_empty() && are_digits(digits),
-        None => true,
-    }
-}
-
-// Whether an origin is a page of that place, at any port.
-fn is_page_of(place: &str, origin: &str) -> bool
-    ensures { result ≡ is_page_of place.now origin.now }
-{
-    match origin.as_bytes().strip_prefix(place.as_bytes()) {
-        Some(port) => is_port(port),
-        None => false,
-    }
-}
-
-/// Whether an origin, as a browser writes it, is a page of this machine.
-pub(crate) fn is_local(origin: &str) -> bool
-    ensures { result ≡ is_local origin.now }
-{
-    is_page_of("http://localhost", origin)
-        || is_page_of("https://localhost", origin)
-        || is_page_of("http://127.0.0.1", origin)
-        || is_page_of("https://127.0.0.1", origin)
-        || is_page_of("http://[::1]", origin)
-        || is_page_of("https://[::1]", origin)
-}
-
-// Whether an origin is one of those that are allowed.
-fn is_among(origin: &str, allowed: &[String]) -> bool
-    ensures { result ≡ list_any (λ one. bytes_eq one origin.now) (map string_bytes allowed.now) }
-{
-    for one in allowed {
-        if one.as_str() == origin {
-            return true;
-        }
-    }
-    false
-}
-
-/// Whether a page of that origin may connect: it is of this machine, or one of those that are allowed.
-pub(crate) fn may_connect(origin: &str, allowed: &[String]) -> bool
-    ensures { result ≡ may_connect origin.now (map string_bytes allowed.now) }
-{
-    is_local(origin) || is_among(origin, allowed)
-}
-
-// The text of an origin, if a browser may write it so.
-fn text_of(origin: &HeaderValue) -> Option<&str>
-    ensures { option_copied result ≡ visible_in origin.now.bytes }
-{
-    match origin.to_str() {
-        Ok(text) => Some(text),
-        Err(_) => None,
-    }
-}
-
-// An origin as its page is told it.
-fn shown(origin: Option<&HeaderValue>) -> &str
-    ensures { result.now ≡ shown (option_map (λ o. o.now.bytes) origin.entry) }
-{
-    match origin {
-        Some(origin) => match text_of(origin) {
-            Some(text) => text,
-            None => "that",
-        },
-        None => "that",
-    }
-}
-
-/// The pages of other machines that may connect, for one handshake.
-pub(crate) struct Origins {
+/// Who judges one handshake: the pages of other machines that may connect.
+pub(crate) struct Judge {
     alloc: Global,
-    allowed: Vec<String>,
+    origins: Origins,
 }
 
-impl Drop for Origins {
+impl Drop for Judge {
     fn drop(self) {
-        let Origins {
+        let Judge {
             alloc: _,
-            allowed: _,
+            origins: _,
         } = self;
     }
 }
 
-impl Model for Origins {
-    ghost use Rattle.std.specs.Prelude.{List, ℕ, map, string_bytes};
+impl Model for Judge {
+    ghost use Rattle.std.specs.Prelude.{List, ℕ};
 
     ghost Value = { List (List ℕ) };
 
-    ghost view = { λ o. map string_bytes o.allowed.items };
+    ghost view = { λ j. j.origins };
 }
 
-impl Origins {
+impl Judge {
     /// The origins that are allowed, for one handshake more.
-    pub(crate) fn of(alloc: Global, allowed: &[String]) -> Result<Origins, AllocError>
-        ensures { IfOk result (λ o. o ≡ map string_bytes allowed.now) }
+    pub(crate) fn of(alloc: Global, allowed: &[String]) -> Result<Judge, AllocError>
+        ensures { IfOk result (λ j. j ≡ map string_bytes allowed.now) }
     {
-        let mut all = Vec::with_capacity(alloc, allowed.len())?;
-        for one in allowed {
-            all.push(String::from_str(alloc, one.as_str())?)?;
-        }
-        Ok(Origins {
-            alloc,
-            allowed: all,
-        })
-    }
-
-    // Whether a handshake with that origin comes about. One that names none is of no web page.
-    fn allows(&self, origin: Option<&HeaderValue>) -> bool
-        ensures { result ≡ allows self.now (option_map (λ o. o.now.bytes) origin.entry) }
-    {
-        match origin {
-            None => true,
-            Some(origin) => match text_of(origin) {
-                Some(text) => may_connect(text, self.allowed.as_slice()),
-                None => false,
-            },
-        }
-    }
-
-    // Whether a handshake comes about that names this origin first, and then that one.
-    fn allows_one(&self, first: Option<&HeaderValue>, second: Option<&HeaderValue>) -> bool
-        ensures { result ≡ (is_none second.entry && allows self.now (option_map (λ o. o.now.bytes) first.entry)) }
-    {
-        match second {
-            None => self.allows(first),
-            Some(_) => false,
-        }
-    }
-
-    // What is answered to a handshake that doesn't come about, with that status.
-    fn answer(&self, status: StatusCode, why: Result<String, AllocError>) -> ErrorResponse
-        ensures status { (head_of result).status ≡ status }
-        ensures why { body_of result ≡ result_ok why }
-    {
-        let mut answer = Response::new(self.alloc, why.ok());
-        *answer.status_mut() = status;
-        answer
-    }
-
-    // What a page that is refused is answered.
-    fn refusal(&self, origin: Option<&HeaderValue>) -> ErrorResponse
-        ensures { IsAnswer (page_refusal (option_map (λ o. o.now.bytes) origin.entry)) result }
-    {
-        let origin = shown(origin);
-        let why = format!(in self.alloc; "a page of {origin} may not connect");
-        self.answer(StatusCode::FORBIDDEN, why)
+        let origins = Origins::of(alloc, allowed)?;
+        Ok(Judge { alloc, origins })
     }
 
     // What a Firebase SDK is answered.
@@ -191,7 +51,7 @@ impl Origins {
         ensures { IsAnswer sdk_refusal result }
     {
         let why = String::from_str(self.alloc, OTHER_PROTOCOL);
-        self.answer(StatusCode::BAD_REQUEST, why)
+        self.origins.answer(StatusCode::BAD_REQUEST, why)
     }
 
     // What is answered to a handshake, if it doesn't come about.
@@ -199,19 +59,14 @@ impl Origins {
         ensures { IsAnswered (refusal_of (handshake_of request.now) self.now) result }
     {
         if is_of_sdk(request.uri().path(), request.uri().query()) {
-            return Some(self.other_protocol());
-        }
-        let mut origins = request.headers().get_all("origin").into_iter();
-        let first = origins.next();
-        if self.allows_one(first, origins.next()) {
-            None
+            Some(self.other_protocol())
         } else {
-            Some(self.refusal(first))
+            self.origins.refused(request)
         }
     }
 }
 
-impl Callback for Origins {
+impl Callback for Judge {
     fn on_request(
         self,
         request: &Request<()>,

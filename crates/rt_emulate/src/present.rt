@@ -2,10 +2,11 @@
 ghost use Rattle.std.specs.Prelude.{◌≡◌, ◌≢◌, ◌∷◌, ◌++◌, [], ℕ, OnOk};
 ghost use Rattle.std.specs.Option.{option_copied_mut, option_map};
 ghost use Rattle.slab.specs.Slab.{get};
-ghost use Rattle.rt_emulate.specs.inside.Guests.{guest_of, is_idle, marked, noted_after, readied, ready_after};
+ghost use Rattle.rt_emulate.specs.inside.Guests.{asking_at, guest_of, is_idle, marked, noted_after, readied, ready_after};
 ghost use Rattle.rt_emulate.specs.inside.Guests.{talk_at};
 
 use crate::alarm::Alarms;
+use crate::asking::Asking;
 use crate::guest::{Guest, Talk};
 use crate::halt::Halt;
 use crate::place::{Places, place_of};
@@ -67,6 +68,16 @@ impl Present {
         match self.talk(place) {
             Some(talk) if talk.connection == connection => Some(place),
             Some(_) | None => None,
+        }
+    }
+
+    /// The guest at that place, if it asks by plain HTTP.
+    pub(crate) fn asking(&mut self, place: usize) -> Option<&mut Asking>
+        ensures { option_copied_mut result ≡ asking_at self.old place }
+    {
+        match self.all.get_mut(place) {
+            Some(guest) => guest.asking(),
+            None => None,
         }
     }
 

@@ -10,7 +10,7 @@ ghost use Rattle.rt_emulate.specs.inside.Sockets.{unsent_by, unsent_with};
 
 use crate::broken::{Broken, done};
 use crate::ending::Ending;
-use mio::net::TcpStream;
+use crate::replay::Replay;
 use rt_hub::{Door, Flushed, Heard, MAX_WAITING_BYTES};
 use rt_input::Counted;
 use rt_wire::is_crowded;
@@ -39,7 +39,7 @@ pub(crate) fn limits() -> WebSocketConfig {
 /// A WebSocket as a door.
 pub(crate) struct Socket {
     alloc: Global,
-    socket: WebSocket<Counted<TcpStream>, NoMask>,
+    socket: WebSocket<Counted<Replay>, NoMask>,
     text: Utf8Bytes,
     /// Whether what was heard last was binary.
     pub(crate) was_binary: bool,
@@ -80,7 +80,7 @@ impl Drop for Socket {
 impl Socket {
     pub(crate) fn new(
         alloc: Global,
-        socket: WebSocket<Counted<TcpStream>, NoMask>,
+        socket: WebSocket<Counted<Replay>, NoMask>,
         is_telling: bool,
     ) -> Socket {
         Socket {

@@ -1,8 +1,8 @@
 -- Why a guest goes, and the code that its client is told then.
-use Rattle.std.specs.Prelude.{ℕ, List, [], codes, Bool, true, false, Option, Some, None, Result, Ok, Err}
+use Rattle.std.specs.Prelude.{ℕ, List, [], codes, Bool, true, false, Option, Some, None, Result, Ok, Err, if◌then◌else◌}
 use Rattle.std.specs.IoError.{error_kind, raw_os_error}
 use Rattle.std.specs.declared.io.ErrorKind.{ErrorKind}
-use Rattle.std.specs.declared.io.ErrorKind.TheVariants.{WouldBlock, QuotaExceeded}
+use Rattle.std.specs.declared.io.ErrorKind.TheVariants.{Interrupted, WouldBlock, QuotaExceeded}
 use Rattle.websocket.specs.declared.error.ProtocolError.{ProtocolError}
 use Rattle.websocket.specs.declared.error.ProtocolError.TheVariants.{ResetWithoutClosingHandshake}
 use Rattle.tungstenite.specs.declared.error.Error.{Error}
@@ -52,6 +52,11 @@ abbrev pub would_block : Broken → Bool
 would_block (Stream WouldBlock number) = true
 would_block b = false
 
+-- a signal came between
+abbrev pub is_interrupted : Broken → Bool
+is_interrupted (Stream Interrupted number) = true
+is_interrupted b = false
+
 -- as many bytes were read as are read in one turn
 abbrev pub is_spent : Broken → Bool
 is_spent (Stream QuotaExceeded number) = true
@@ -92,6 +97,7 @@ close_reason e = []
 
 abbrev pub is_told : Ending → Bool
 is_told ends.Refused = true
+is_told ends.Answered = true
 is_told e = false
 
 -- by the code of the client's close, where it has closed, and by why its socket failed otherwise
@@ -105,3 +111,7 @@ abbrev pub too_much : Bool → Bool → Option Ending
 too_much true is_over = Some ends.TooManyListens
 too_much false true = Some ends.Over
 too_much false false = None
+
+-- one whose stream has ended so, that has asked by plain HTTP or hasn't
+abbrev pub stream_ending : Bool → Broken → Ending
+stream_ending has_asked why = if has_asked then ends.Answered else ends.Failed why

@@ -12,13 +12,14 @@ use Rattle.rt_hub.specs.declared.hand.Handed.TheVariants as hand
 use Rattle.rt_hub.specs.declared.notes.Notes.{Notes}
 use Rattle.rt_hub.specs.declared.take.Turn.{Turn}
 use Rattle.rt_hub.specs.declared.take.Turn.TheVariants as turn
+use Rattle.rt_emulate.specs.declared.asking.Asking.{Asking as Request}
 use Rattle.rt_emulate.specs.declared.emulator.Emulator.{Emulator}
 use Rattle.rt_emulate.specs.declared.emulator.TheConstants.{LINES_MS}
 use Rattle.rt_emulate.specs.declared.ending.Ending.{Ending}
 use Rattle.rt_emulate.specs.declared.ending.Ending.TheVariants.{Silent, Unshaken}
 use Rattle.rt_emulate.specs.declared.guest.Guest.{Guest}
 use Rattle.rt_emulate.specs.declared.guest.Stage.{Stage}
-use Rattle.rt_emulate.specs.declared.guest.Stage.TheVariants.{Shaking, Open, Gone}
+use Rattle.rt_emulate.specs.declared.guest.Stage.TheVariants.{Asking, Shaking, Open, Gone}
 use Rattle.rt_emulate.specs.declared.guest.Talk.{Talk}
 use Rattle.rt_emulate.specs.declared.guest.Turned.{Turned}
 use Rattle.rt_emulate.specs.declared.guest.Turned.TheVariants.{Idle, More, Ends}
@@ -31,6 +32,7 @@ use Rattle.rt_emulate.specs.declared.socket.Socket.{Socket}
 use Rattle.rt_emulate.specs.inside.Alarms.{next_time, patience, sooner}
 use Rattle.rt_emulate.specs.inside.Endings.{ending_of, too_much}
 use Rattle.rt_emulate.specs.inside.Places.{place_of}
+use Rattle.rt_emulate.specs.inside.Requests.{rung as asking_rung}
 use Rattle.rt_emulate.specs.inside.Silences.{due_of}
 
 -- ---- who has a turn
@@ -85,9 +87,17 @@ IsPatience e has_lines patient =
 
 -- a guest that has shaken hands is a connection
 abbrev pub talk_of : Stage → Option Talk
+talk_of (Asking asking) = None
 talk_of (Shaking shaking) = None
 talk_of (Open talk) = Some talk
 talk_of Gone = None
+
+-- one that asks
+abbrev pub asking_of : Stage → Option Request
+asking_of (Asking asking) = Some asking
+asking_of (Shaking shaking) = None
+asking_of (Open talk) = None
+asking_of Gone = None
 
 abbrev pub number_of : Stage → Option ℕ
 number_of stage = option_map (λ t. t.connection) (talk_of stage)
@@ -104,10 +114,15 @@ abbrev pub guest_of : Present → ℕ → Option ℕ
 guest_of p n =
     option_and_then (λ place. if talks_as n (talk_at p place) then Some place else None) (place_of p.places.items n)
 
+-- the guest at that place, if it asks
+abbrev pub asking_at : Present → ℕ → Option Request
+asking_at p place = option_and_then (λ g. asking_of g.stage) (get p.all place)
+
 -- ---- what is due
 
 -- a stream that takes something is not blocked any more
 abbrev pub unblocked : Stage → Stage
+unblocked (Asking asking) = Asking asking
 unblocked (Shaking shaking) = Shaking shaking
 unblocked (Open talk) = Open (record talk { is_blocked = false })
 unblocked Gone = Gone
@@ -118,9 +133,15 @@ next_of End now = Err Silent
 next_of Ping now = Ok (later now SILENCE_MS)
 next_of (Later wait) now = Ok (later now wait)
 
--- a guest that is no connection by its first alarm goes
+-- one that asks goes once it is waited for too long, and a guest that still shakes hands by an alarm goes
+abbrev pub rung_in : Stage → Silence → ℕ → Result ℕ Ending
+rung_in (Asking asking) s now = asking_rung asking now
+rung_in (Shaking shaking) s now = Err Unshaken
+rung_in (Open talk) s now = next_of (due_of s now) now
+rung_in Gone s now = Err Unshaken
+
 abbrev pub rung : Guest → ℕ → Result ℕ Ending
-rung g now = option_map_or (λ t. next_of (due_of g.silence now) now) (talk_of g.stage) (Err Unshaken)
+rung g now = rung_in g.stage g.silence now
 
 -- one that is sent a ping is waited for
 abbrev pub asked : Due → Silence → ℕ → Silence

@@ -20,6 +20,10 @@ abbrev pub note_all : ℕ → List Accepted → Journal → Journal
 note_all n [] j = j
 note_all n (a ∷ all) j = note_all n all (note_one n a j)
 
+-- a request of that connection is noted
+abbrev pub note_text : ℕ → When → List ℕ → Journal → Journal
+note_text n when text j = record j { book = with_request j.book n (noted_of when) text }
+
 abbrev pub note_turn : ℕ → ℕ → Journal → Journal
 note_turn n count j = record j { book = with_turn j.book n count }
 

@@ -1,45 +1,16 @@
 -- Handshakes that the prover judges: origins as browsers write them, and such as none writes; what a Firebase
--- SDK asks for, and what it doesn't.
+-- SDK asks for, and what it doesn't. Characters that a line shows, and those that a terminal obeys.
 use Rattle.std.specs.Prelude.{◌≡◌, List, [], ◌∷◌, ℕ, true, false, Some, None, codes, map}
 use Rattle.std.specs.List.{list_all, list_any}
 use Rattle.std.specs.Option.{is_none}
-use Rattle.rt_emulate.specs.Origins.{is_local, may_connect, origin_fault}
+use Rattle.rt_emulate.specs.Origins.{origin_fault}
 use Rattle.rt_emulate.specs.declared.allowing.OriginFault.TheVariants.{UpperCase, NoScheme, NoHost, Behind}
 use Rattle.rt_emulate.specs.declared.allowing.OriginFault.TheVariants.{BadLetter, BadPort}
+use Rattle.rt_emulate.specs.Plains.{is_hidden, plain_of}
 use Rattle.rt_emulate.specs.Protocols.{is_of_sdk}
-
--- pages of this machine, at any port
-abbrev pub local_ones : List (List ℕ)
-local_ones =
-    codes "http://localhost" ∷ codes "http://localhost:3000" ∷ codes "https://127.0.0.1:8443"
-    ∷ codes "http://[::1]:80" ∷ []
-
--- pages of other machines, and what is the origin of no page
-abbrev pub other_ones : List (List ℕ)
-other_ones =
-    codes "null" ∷ codes "http://evil.example" ∷ codes "http://localhost.evil.example"
-    ∷ codes "http://127.0.0.10" ∷ codes "http://localhost:" ∷ codes "http://localhost:80x"
-    ∷ codes "file://localhost" ∷ codes "ftp://localhost" ∷ codes "http://" ∷ [] ∷ []
-
-abbrev pub LocalOnes : Type 0
-LocalOnes = list_all is_local local_ones ≡ true
-
-abbrev pub OtherOnes : Type 0
-OtherOnes = list_any is_local other_ones ≡ false
 
 abbrev pub app : List ℕ
 app = codes "https://app.example"
-
--- one that is allowed may connect, beside those of this machine, and not at another port
-abbrev pub AllowedOnes : Type 0
-AllowedOnes =
-    list_all (λ origin. may_connect origin (codes "null" ∷ app ∷ []))
-    (app ∷ codes "null" ∷ codes "http://localhost:1" ∷ []) ≡ true
-
-abbrev pub NotAllowedOnes : Type 0
-NotAllowedOnes =
-    list_any (λ origin. may_connect origin (app ∷ []))
-    (codes "https://app.example:1" ∷ codes "http://app.example" ∷ codes "null" ∷ []) ≡ false
 
 -- what browsers write: a page of a host, of an address, of an extension, and one whose origin is hidden
 abbrev pub WrittenOnes : Type 0
@@ -77,3 +48,18 @@ OthersAreNoSdks =
     (list_any (λ query. is_of_sdk (codes "/.ws") (Some query)) other_queries ≡ false)
     × (list_any (λ path. is_of_sdk path (Some (codes "v=5&ns=demo"))) (codes "/" ∷ codes "/.wsx" ∷ codes "/a/.ws" ∷ [])
     ≡ false) × (is_of_sdk (codes "/.ws") None ≡ false)
+
+-- a line feed, escape, delete, the control sequence introducer of C1, the end of a line, overrides and isolates
+abbrev pub HiddenOnes : Type 0
+HiddenOnes =
+    list_all is_hidden (10 ∷ 27 ∷ 127 ∷ 128 ∷ 155 ∷ 159 ∷ 0x61C ∷ 0x200E ∷ 0x2028 ∷ 0x202A ∷ 0x202E ∷ 0x2066 ∷ 0x2069 ∷ []) ≡ true
+
+-- a blank, ~, a blank that doesn't break, é, the joiner of signs, 中, and a sign of two units of UTF-16
+abbrev pub ShownOnes : Type 0
+ShownOnes =
+    list_any is_hidden (32 ∷ 126 ∷ 160 ∷ 233 ∷ 0x200D ∷ 0x202F ∷ 0x2065 ∷ 0x206A ∷ 0x4E2D ∷ 0x1F600 ∷ []) ≡ false
+
+abbrev pub NumberedOnes : Type 0
+NumberedOnes =
+    map plain_of (97 ∷ 155 ∷ 0x202E ∷ [])
+    ≡ codes "a" ∷ codes "\\u{9b}" ∷ codes "\\u{202e}" ∷ []

@@ -1,6 +1,7 @@
 use Rattle.std.proofs.Common.{rules, ◌≡◌, true, List, ℕ, Some, codes, refl, ◌∙◌}
-use Rattle.rt_emulate.specs.Origins.{begins_small, behind, behind_scheme, place_fault, scheme_fault}
-use Rattle.rt_emulate.proofs.Behind.{stripped}
+use Rattle.rt_socket.specs.Origins.{behind}
+use Rattle.rt_socket.proofs.Behind.{stripped}
+use Rattle.rt_emulate.specs.Origins.{begins_small, behind_scheme, place_fault, scheme_fault}
 use Rattle.rt_emulate.proofs.allowing.scheme_fault.Goals as goal
 
 is_of_place : (origin place : List ℕ) → begins_small origin ≡ true
