@@ -21,9 +21,8 @@ use crate::shared::{Shared, with_core, with_seat};
 use rt_push::PushError;
 use rt_query::Query;
 use rt_tree::{Path, Tree};
-use rt_wire::{Action, Ending, ServerMessage};
+use rt_wire::{Action, ServerMessage};
 use rt_world::{Call, Outcome, Step};
-use rt_writes::Entries;
 
 // A call whose step makes a listener or a request: the number that it is given.
 #[tactic(auto, using(crate::proofs::Seated::number_there))]
@@ -59,7 +58,7 @@ impl Shared {
         ensures refused { IfErr result (λ e.
             RefusesCall self.old seat.old (call.Listen query) e self.new seat.new) }
     {
-        number_of(self, seat, Call::Listen { query })
+        number_of(self, seat, Call::listen(query))
     }
 
     /// Ends a listener of the seat.
@@ -69,7 +68,7 @@ impl Shared {
         ensures refused { IfErr result (λ e.
             RefusesCall self.old seat.old (call.Unlisten listener) e self.new seat.new) }
     {
-        with_seat(self, seat, Call::Unlisten { listener })?;
+        with_seat(self, seat, Call::unlisten(listener))?;
         Ok(())
     }
 
@@ -80,8 +79,7 @@ impl Shared {
         ensures refused { IfErr result (λ e.
             RefusesCall self.old seat.old (call.Write (Put path tree)) e self.new seat.new) }
     {
-        let action = Action::Put { path, tree };
-        number_of(self, seat, Call::Write { action })
+        number_of(self, seat, Call::set(path, tree))
     }
 
     /// Sets several trees, each at its path, in one write.
@@ -95,9 +93,7 @@ impl Shared {
         ensures refused { IfErr result (λ e.
             RefusesCall self.old seat.old (call.Write (Merge entries.items)) e self.new seat.new) }
     {
-        let entries = Entries::of(entries);
-        let action = Action::Merge { entries };
-        number_of(self, seat, Call::Write { action })
+        number_of(self, seat, Call::update(entries))
     }
 
     /// Removes what is at a path: sets null there.
@@ -107,7 +103,7 @@ impl Shared {
         ensures refused { IfErr result (λ e.
             RefusesCall self.old seat.old (call.Write (Put path null)) e self.new seat.new) }
     {
-        self.set(seat, path, Tree::null())
+        number_of(self, seat, Call::remove(path))
     }
 
     /// Asks the server for a write, which it makes when the connection ends.
@@ -117,8 +113,7 @@ impl Shared {
         ensures refused { IfErr result (λ e.
             RefusesCall self.old seat.old (call.OnDisconnect (Run action)) e self.new seat.new) }
     {
-        let ending = Ending::Run(action);
-        number_of(self, seat, Call::OnDisconnect { ending })
+        number_of(self, seat, Call::on_disconnect(action))
     }
 
     /// Drops what was to be written at and below a path when the connection ends.
@@ -128,8 +123,7 @@ impl Shared {
         ensures refused { IfErr result (λ e.
             RefusesCall self.old seat.old (call.OnDisconnect (Cancel path)) e self.new seat.new) }
     {
-        let ending = Ending::Cancel(path);
-        number_of(self, seat, Call::OnDisconnect { ending })
+        number_of(self, seat, Call::cancel_disconnect(path))
     }
 }
 

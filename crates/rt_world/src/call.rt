@@ -1,10 +1,16 @@
 // A seat's own call, and the step of each call and of each message of the server.
 ghost use Rattle.std.specs.Prelude.{◌≡◌, IfOk};
+ghost use Rattle.rt_tree.specs.PathTree.{null};
+ghost use Rattle.rt_wire.specs.declared.request.Action.TheVariants.{Put, Merge};
+ghost use Rattle.rt_wire.specs.declared.request.Ending.TheVariants.{Run, Cancel};
 ghost use Rattle.rt_world.specs.Calls.{step_of, step_of_message};
+ghost use Rattle.rt_world.specs.declared.call.Call.TheVariants as call;
 
 use crate::step::Step;
 use rt_query::Query;
+use rt_tree::{Path, Tree};
 use rt_wire::{Action, Ending, ServerMessage};
+use rt_writes::Entries;
 use std::alloc::{AllocError, Global};
 
 /// A seat's own call, which is answered with a receipt.
@@ -21,6 +27,60 @@ pub enum Call {
 }
 
 impl Call {
+    /// Registers a listener, which the seat is told of from then on.
+    pub fn listen(query: Query) -> Call
+        ensures { result ≡ call.Listen query }
+    {
+        Call::Listen { query }
+    }
+
+    /// Ends a listener of the seat.
+    pub fn unlisten(listener: u64) -> Call
+        ensures { result ≡ call.Unlisten listener }
+    {
+        Call::Unlisten { listener }
+    }
+
+    /// Sets a tree at a path; null removes.
+    pub fn set(path: Path, tree: Tree) -> Call
+        ensures { result ≡ call.Write (Put path tree) }
+    {
+        let action = Action::Put { path, tree };
+        Call::Write { action }
+    }
+
+    /// Sets several trees, each at its path, in one write.
+    pub fn update(entries: Vec<(Path, Tree)>) -> Call
+        ensures { result ≡ call.Write (Merge entries.items) }
+    {
+        let entries = Entries::of(entries);
+        let action = Action::Merge { entries };
+        Call::Write { action }
+    }
+
+    /// Removes what is at a path: sets null there.
+    pub fn remove(path: Path) -> Call
+        ensures { result ≡ call.Write (Put path null) }
+    {
+        Call::set(path, Tree::null())
+    }
+
+    /// Asks the server for a write, which it makes when the connection ends.
+    pub fn on_disconnect(action: Action) -> Call
+        ensures { result ≡ call.OnDisconnect (Run action) }
+    {
+        let ending = Ending::Run(action);
+        Call::OnDisconnect { ending }
+    }
+
+    /// Drops what was to be written at and below a path when the connection ends.
+    pub fn cancel_disconnect(path: Path) -> Call
+        ensures { result ≡ call.OnDisconnect (Cancel path) }
+    {
+        let ending = Ending::Cancel(path);
+        Call::OnDisconnect { ending }
+    }
+
     /// The call as a step of that seat. Keys and trees are shared.
     ///
     /// # Errors
