@@ -10,7 +10,7 @@ use Rattle.rt_query.specs.Queries.{Query}
 use Rattle.rt_query.specs.QueryEq.{query_eq}
 use Rattle.rt_query.specs.Supply.{form}
 use Rattle.rt_query.specs.laws.QueryEq.{query_eq_tells}
-use Rattle.rt_cache.specs.Brought.{Brought, Window}
+use Rattle.rt_cache.specs.Brought.{Window}
 use Rattle.rt_cache.specs.Recover.{is_among}
 use Rattle.rt_cover.specs.declared.delta.Delta.{Delta}
 use Rattle.rt_cover.specs.declared.kept.Kept.{Kept}
@@ -21,9 +21,6 @@ use Rattle.rt_cover.specs.laws.FormLaws.{same_tests}
 use Rattle.rt_cover.specs.laws.KeepLaws.{Contains-map, Contains-from_map, length_of_map, forms-started}
 use Rattle.rt_cover.specs.laws.Pairs.{Contains-cases, AllPairs-first, AllPairs-rest, AllPairs-map, AllPairs-from_map, filter_agreeing}
 use Rattle.rt_cover.specs.laws.SoundLaws.{told_exactly}
-use Rattle.rt_wire.specs.declared.client.ClientMessage.{ClientMessage}
-use Rattle.rt_world.specs.declared.limits.Limits.{Limits}
-use Rattle.rt_world.specs.declared.request.Request.{Request}
 use Rattle.rt_world.specs.declared.step.Step.{Step}
 use Rattle.rt_world.specs.World.{World, Listener, registered, listening}
 use Rattle.rt_world.specs.Covering.{cover_in, cover_after}
@@ -33,6 +30,7 @@ use Rattle.rt_world.specs.laws.Holds.{CoverFollows}
 use Rattle.rt_world.specs.laws.Steps.{StaysSound}
 use Rattle.rt_sync.specs.inside.Due.{IsDue}
 use Rattle.rt_sync.specs.inside.Losing.{forms_at, KeepsNeeded, HasLost}
+use Rattle.rt_sync.specs.declared.state.State.{State}
 use Rattle.rt_sync.specs.inside.StateView.{IsTied, world_of}
 use Rattle.rt_sync.proofs.Losing.{listening_of}
 use Rattle.rt_sync.proofs.TagLaws.{cover_tied}
@@ -216,30 +214,30 @@ kept_of (k ∷ kept) tag q e =
 keeps : (w : World) → IsSound w → KeepsNeeded (cover_in w)
 keeps w h = record { forms = (h.listens).forms; only = (h.listens).only; all = (h.listens).all; once = (h.listens).once }
 
-module _ (limits : Limits) (ls : List Listener) (requests : List Request) (b : Brought) (cover : Cover) (c : Bool) (out : List ClientMessage) (gl gr : ℕ) where
+module _ (state : State) where
   abbrev w : World
-  w = world_of limits ls requests b cover c out gl gr
+  w = world_of state
 
   -- the cover's listeners rise
-  pub covered_rise : IsTied cover w → IsSound w → AllPairs (λ (x y : Registered). x.0 < y.0) cover.listeners
+  pub covered_rise : IsTied state.cover w → IsSound w → AllPairs (λ (x y : Registered). x.0 < y.0) state.cover.listeners
   covered_rise t h = subst (AllPairs (λ (x y : Registered). x.0 < y.0)) (sym t.listened) (h.listens).listeners
 
   -- what begins where these listeners are left
-  begun_told : IsTied cover w → IsSound w → (rs : List Registered) (delta : Delta) → delta.started ≡ (difference cover (with_listeners cover rs)).started
-      → map (λ (k : Kept). k.query) delta.started ≡ filter (λ f. not (is_kept cover.kept f)) (needed_forms rs)
+  begun_told : IsTied state.cover w → IsSound w → (rs : List Registered) (delta : Delta) → delta.started ≡ (difference state.cover (with_listeners state.cover rs)).started
+      → map (λ (k : Kept). k.query) delta.started ≡ filter (λ f. not (is_kept state.cover.kept f)) (needed_forms rs)
   begun_told t h rs delta e =
       ap (map (λ (k : Kept). k.query)) (e ∙ ap (λ (d : Delta). d.started) (told_exactly (cover_of w) rs h.listens))
       ∙ shown_forms rs (started_for (cover_of w) rs)
-      ∙ forms-started cover.next_tag (filter (λ f. not (is_kept cover.kept f)) (needed_forms rs))
+      ∙ forms-started state.cover.next_tag (filter (λ f. not (is_kept state.cover.kept f)) (needed_forms rs))
 
-  lost_after : StaysSound → CoverFollows → IsTied cover w → (s : Step) → IsDue w s → (is : Cover) → is ≡ cover_after w s
-      → (numbers : List ℕ) → AllPairs (λ (m n : ℕ). m < n) numbers → is.listeners ≡ without_listeners cover.listeners numbers
-      → (ended : List Query) → All (Contains (listening cover.listeners)) ended
-      → ((f : Query) → has_listener cover.listeners f ≡ true → (is_among ended f || has_listener is.listeners f) ≡ true)
-      → ((l : Registered) → Contains cover.listeners l → list_any (λ n. n == l.0) numbers ≡ true → is_among ended l.1 ≡ true)
-      → (delta : Delta) → delta.started ≡ (difference cover (with_listeners cover is.listeners)).started → HasLost cover is numbers ls ended delta b
+  lost_after : StaysSound → CoverFollows → IsTied state.cover w → (s : Step) → IsDue w s → (is : Cover) → is ≡ cover_after w s
+      → (numbers : List ℕ) → AllPairs (λ (m n : ℕ). m < n) numbers → is.listeners ≡ without_listeners state.cover.listeners numbers
+      → (ended : List Query) → All (Contains (listening state.cover.listeners)) ended
+      → ((f : Query) → has_listener state.cover.listeners f ≡ true → (is_among ended f || has_listener is.listeners f) ≡ true)
+      → ((l : Registered) → Contains state.cover.listeners l → list_any (λ n. n == l.0) numbers ≡ true → is_among ended l.1 ≡ true)
+      → (delta : Delta) → delta.started ≡ (difference state.cover (with_listeners state.cover is.listeners)).started → HasLost state.cover is numbers state.listeners.listeners ended delta state.brought
   lost_after sound follows t s d is e numbers rising left ended were told given delta begun = record {
-    was_sound = subst KeepsNeeded (sym (cover_tied cover w t refl refl)) (keeps w d.good.sound);
+    was_sound = subst KeepsNeeded (sym (cover_tied state.cover w t refl refl)) (keeps w d.good.sound);
     is_sound = subst KeepsNeeded (follows w s d.good.sound ∙ sym e) (keeps (next w s) (sound w s d.good.sound));
     listened = t.listened;
     rises = covered_rise t d.good.sound;
@@ -252,42 +250,42 @@ module _ (limits : Limits) (ls : List Listener) (requests : List Request) (b : B
     called = d.good.called;
     registered = d.good.reached.forms ∙ ap listening (sym t.listened);
     regions = d.good.reached.regions;
-    windows = subst (λ (rs : List Registered). All (λ (x : Query × Window). Contains (listening rs) x.0) b.windows) (sym t.listened) d.good.reached.windows;
+    windows = subst (λ (rs : List Registered). All (λ (x : Query × Window). Contains (listening rs) x.0) state.brought.windows) (sym t.listened) d.good.reached.windows;
   }
 
   -- those of some numbers
-  pub lost_numbers : StaysSound → CoverFollows → IsTied cover w → (s : Step) → IsDue w s → (is : Cover) → is ≡ cover_after w s → (numbers : List ℕ) → AllPairs (λ (m n : ℕ). m < n) numbers
-      → is ≡ removed cover numbers → (ended : List Query) → ended ≡ forms_at cover.listeners numbers
-      → (delta : Delta) → delta ≡ difference cover (removed cover numbers) → HasLost cover is numbers ls ended delta b
+  pub lost_numbers : StaysSound → CoverFollows → IsTied state.cover w → (s : Step) → IsDue w s → (is : Cover) → is ≡ cover_after w s → (numbers : List ℕ) → AllPairs (λ (m n : ℕ). m < n) numbers
+      → is ≡ removed state.cover numbers → (ended : List Query) → ended ≡ forms_at state.cover.listeners numbers
+      → (delta : Delta) → delta ≡ difference state.cover (removed state.cover numbers) → HasLost state.cover is numbers state.listeners.listeners ended delta state.brought
   lost_numbers sound follows t s d is e numbers rising left ended forms_are delta de =
       lost_after sound follows t s d is e numbers rising (ap (λ (x : Cover). x.listeners) left)
-      ended (subst (λ fs. All (Contains (listening cover.listeners)) fs) (sym forms_are) (forms_listened cover.listeners numbers))
-      (λ f here. (λ i. is_among (forms_are i) f || has_listener (left i).listeners f) ∙ numbers_end cover.listeners numbers (covered_rise t d.good.sound) f here)
-      (λ l m e. ap (λ fs. is_among fs l.1) forms_are ∙ among_ended cover.listeners l l.1 (covered_rise t d.good.sound) m ((query_eq_tells l.1 l.1).1 refl) numbers e)
-      delta (ap (λ (x : Delta). x.started) de ∙ ap (λ (x : Cover). (difference cover (with_listeners cover x.listeners)).started) (sym left))
+      ended (subst (λ fs. All (Contains (listening state.cover.listeners)) fs) (sym forms_are) (forms_listened state.cover.listeners numbers))
+      (λ f here. (λ i. is_among (forms_are i) f || has_listener (left i).listeners f) ∙ numbers_end state.cover.listeners numbers (covered_rise t d.good.sound) f here)
+      (λ l m e. ap (λ fs. is_among fs l.1) forms_are ∙ among_ended state.cover.listeners l l.1 (covered_rise t d.good.sound) m ((query_eq_tells l.1 l.1).1 refl) numbers e)
+      delta (ap (λ (x : Delta). x.started) de ∙ ap (λ (x : Cover). (difference state.cover (with_listeners state.cover x.listeners)).started) (sym left))
 
   -- those of a listen
-  pub lost_listen : StaysSound → CoverFollows → IsTied cover w → (s : Step) → IsDue w s → (is : Cover) → is ≡ cover_after w s → (tag : ℕ) → is ≡ revoked cover tag
-      → (g : Query) → option_map (λ (k : Tagged). k.form) (listen_at cover tag) ≡ Some g → (numbers : List ℕ) → numbers ≡ ended_by cover tag → (ended : List Query) → ended ≡ g ∷ []
-      → (delta : Delta) → delta ≡ without_tag tag (difference cover (revoked cover tag)) → HasLost cover is numbers ls ended delta b
+  pub lost_listen : StaysSound → CoverFollows → IsTied state.cover w → (s : Step) → IsDue w s → (is : Cover) → is ≡ cover_after w s → (tag : ℕ) → is ≡ revoked state.cover tag
+      → (g : Query) → option_map (λ (k : Tagged). k.form) (listen_at state.cover tag) ≡ Some g → (numbers : List ℕ) → numbers ≡ ended_by state.cover tag → (ended : List Query) → ended ≡ g ∷ []
+      → (delta : Delta) → delta ≡ without_tag tag (difference state.cover (revoked state.cover tag)) → HasLost state.cover is numbers state.listeners.listeners ended delta state.brought
   lost_listen sound follows t s d is e tag left g at numbers ne ended one delta de =
       let up = covered_rise t d.good.sound in
-      let ns : numbers ≡ numbers_of cover.listeners g = ne ∙ ends_of (listen_at cover tag) at in
-      let rs : is.listeners ≡ without_form cover.listeners g = ap (λ (x : Cover). x.listeners) left ∙ listen_ends cover tag g at in
-      lost_after sound follows t s d is e numbers (subst (AllPairs (λ (m n : ℕ). m < n)) (sym ns) (numbers_rise cover.listeners up g))
-      (rs ∙ form_numbers cover.listeners up g ∙ ap (without_listeners cover.listeners) (sym ns))
-      ended (subst (λ fs. All (Contains (listening cover.listeners)) fs) (sym one) (All-cons (Contains (listening cover.listeners)) g [] (kept_listened t d.good.sound) (All-nil (Contains (listening cover.listeners)))))
-      (λ f here. (λ i. is_among (one i) f || has_listener ((rs) i) f) ∙ form_ends cover.listeners g f here)
-      (λ l m h. ap (λ fs. is_among fs l.1) one ∙ true_or (query_eq g l.1) false ((query_eq_tells g l.1).1 (sym ((query_eq_tells l.1 g).0 (of_form_numbers cover.listeners up g l m ∙ ap (list_any (λ n. n == l.0)) (sym ns) ∙ h)))))
-      delta (ap (λ (x : Delta). x.started) de ∙ ap (λ (x : Cover). (difference cover (with_listeners cover x.listeners)).started) (sym left))
+      let ns : numbers ≡ numbers_of state.cover.listeners g = ne ∙ ends_of (listen_at state.cover tag) at in
+      let rs : is.listeners ≡ without_form state.cover.listeners g = ap (λ (x : Cover). x.listeners) left ∙ listen_ends state.cover tag g at in
+      lost_after sound follows t s d is e numbers (subst (AllPairs (λ (m n : ℕ). m < n)) (sym ns) (numbers_rise state.cover.listeners up g))
+      (rs ∙ form_numbers state.cover.listeners up g ∙ ap (without_listeners state.cover.listeners) (sym ns))
+      ended (subst (λ fs. All (Contains (listening state.cover.listeners)) fs) (sym one) (All-cons (Contains (listening state.cover.listeners)) g [] (kept_listened t d.good.sound) (All-nil (Contains (listening state.cover.listeners)))))
+      (λ f here. (λ i. is_among (one i) f || has_listener ((rs) i) f) ∙ form_ends state.cover.listeners g f here)
+      (λ l m h. ap (λ fs. is_among fs l.1) one ∙ true_or (query_eq g l.1) false ((query_eq_tells g l.1).1 (sym ((query_eq_tells l.1 g).0 (of_form_numbers state.cover.listeners up g l m ∙ ap (list_any (λ n. n == l.0)) (sym ns) ∙ h)))))
+      delta (ap (λ (x : Delta). x.started) de ∙ ap (λ (x : Cover). (difference state.cover (with_listeners state.cover x.listeners)).started) (sym left))
     where
-      ends_of : (o : Option Tagged) → option_map (λ (k : Tagged). k.form) o ≡ Some g → option_map_or (λ (k : Tagged). numbers_of cover.listeners k.form) o [] ≡ numbers_of cover.listeners g
+      ends_of : (o : Option Tagged) → option_map (λ (k : Tagged). k.form) o ≡ Some g → option_map_or (λ (k : Tagged). numbers_of state.cover.listeners k.form) o [] ≡ numbers_of state.cover.listeners g
       ends_of None h = cc
-      ends_of (Some k) h = let same : k.form ≡ g = cc in ap (numbers_of cover.listeners) same
+      ends_of (Some k) h = let same : k.form ≡ g = cc in ap (numbers_of state.cover.listeners) same
 
       -- the form of a kept listen is listened to
-      kept_listened : IsTied cover w → IsSound w → Contains (listening cover.listeners) g
+      kept_listened : IsTied state.cover w → IsSound w → Contains (listening state.cover.listeners) g
       kept_listened t h =
-          let m : Contains (needed_forms (registered ls)) g = All-contains (Contains (needed_forms (registered ls))) (map (λ (k : Tagged). k.form) cover.kept) g (h.listens).only (kept_of cover.kept tag g at) in
+          let m : Contains (needed_forms (registered state.listeners.listeners)) g = All-contains (Contains (needed_forms (registered state.listeners.listeners))) (map (λ (k : Tagged). k.form) state.cover.kept) g (h.listens).only (kept_of state.cover.kept tag g at) in
           subst (λ (rs : List Registered). Contains (listening rs) g) (sym t.listened)
-          (listening_of (registered ls) g (Contains-from_filter (λ f. not (is_covered (forms (registered ls)) f)) (forms (registered ls)) g m))
+          (listening_of (registered state.listeners.listeners) g (Contains-from_filter (λ f. not (is_covered (forms (registered state.listeners.listeners)) f)) (forms (registered state.listeners.listeners)) g m))

@@ -1,21 +1,20 @@
 -- What the code of a step makes that begins and ends no listener is the next world, and its parts agree.
-use Rattle.std.proofs.Common.{◌≡◌, ℕ, ◌+◌, Bool, true, false, cond, not, ◌||◌, List, [], ◌∷◌, ◌++◌, map, refl, sym, ap, subst, ◌∙◌, Option, Some, None}
+use Rattle.std.proofs.Common.{◌≡◌, ℕ, ◌+◌, Bool, true, false, cond, not, ◌||◌, List, [], ◌∷◌, ◌++◌, map, refl, sym, ap, ◌∙◌, Option, Some, None}
 use Rattle.std.specs.Prelude.{◌==◌, is_some}
 use Rattle.rt_parts.specs.declared.requests.Settled.{Settled as Left}
-use Rattle.std.specs.List.{filter, find, fold, list_any}
+use Rattle.std.specs.List.{filter, find, fold, list_any, zip}
 use Rattle.std.specs.Option.{option_and_then, option_map, option_map_or, option_to_list}
 use Rattle.rt_query.specs.Supply.{form}
 use Rattle.rt_tree.specs.Assignments.{Assignment}
 use Rattle.rt_writes.specs.Writes.{Write}
 use Rattle.rt_cache.specs.Brought.{Brought, push}
 use Rattle.rt_cover.specs.Cover.{Registered, Tagged}
-use Rattle.rt_cover.specs.State.{Cover, listen_at, shown, shown_with}
+use Rattle.rt_cover.specs.State.{listen_at, shown, shown_with}
 use Rattle.rt_wire.specs.declared.client.ClientMessage.{ClientMessage}
 use Rattle.rt_wire.specs.declared.limits.TheConstants.{VERSION}
 use Rattle.rt_wire.specs.declared.request.Action.{Action}
 use Rattle.rt_wire.specs.declared.request.Asked.TheVariants.{Now, AtDisconnect}
 use Rattle.rt_wire.specs.declared.request.Ending.{Ending}
-use Rattle.rt_world.specs.declared.limits.Limits.{Limits}
 use Rattle.rt_world.specs.declared.request.Request.{Request}
 use Rattle.rt_world.specs.declared.step.Step.{Step}
 use Rattle.rt_world.specs.declared.report.Body.TheVariants.{Settled}
@@ -23,6 +22,7 @@ use Rattle.rt_world.specs.declared.report.Note.{Note}
 use Rattle.rt_world.specs.World.{Reason, World, Listener, registered, pending, entries_of}
 use Rattle.rt_world.specs.After.{renewed}
 use Rattle.rt_world.specs.Messages.{listens, request_message}
+use Rattle.rt_parts.specs.Refreshed.{count_met, view_met}
 use Rattle.rt_parts.specs.Settling.{settled}
 use Rattle.rt_world.specs.Refusals.{is_stale}
 use Rattle.rt_world.specs.Answers.{settled_note, done_report}
@@ -31,10 +31,13 @@ use Rattle.rt_world.specs.Touched.{entries_settled, entries_pushed}
 use Rattle.rt_world.specs.Met.{do_meet, renewed_met, all_told}
 use Rattle.rt_world.specs.laws.Made.{asked_sent, IsMade, Leaves, AcceptedIsMade, RefusedIsMade, PushIsMade, WriteIsMade, EndingIsMade, ConnectedIsMade, DisconnectedIsMade, settled_world, settled_told, writes_with}
 use Rattle.rt_world.specs.laws.Steps.{RenewedIsOne, WriteIsPending, SettledIsNotPending}
+use Rattle.rt_sync.specs.Core.{Held}
 use Rattle.rt_sync.specs.declared.told.Told.{Told}
 use Rattle.rt_sync.specs.inside.Due.{IsDue, IsNext, settling}
 use Rattle.rt_sync.specs.inside.Parts.{listens_shown}
+use Rattle.rt_sync.specs.declared.state.State.{State}
 use Rattle.rt_sync.specs.inside.StateView.{IsTied, world_of}
+use Rattle.rt_sync.specs.inside.Viewed.{HasViews, RefreshesViews}
 
 -- ---- the parts agree
 
@@ -127,95 +130,108 @@ settling_leaves : AcceptedIsMade → RefusedIsMade → (w : World) (id : ℕ) (w
 settling_leaves accepted refused w id None d = accepted w id (made_of w (Step.Accepted id) d) d.good.reached
 settling_leaves accepted refused w id (Some why) d = refused w id why (made_of w (Step.Refused id why) d) d.good.reached
 
-module _ (limits : Limits) (ls : List Listener) (requests : List Request) (b : Brought) (cover : Cover) (c : Bool) (out : List ClientMessage) (gl gr : ℕ) where
-  abbrev pub w : World
-  w = world_of limits ls requests b cover c out gl gr
+-- so do the views of the listeners that are refreshed
+pub refreshes : (h : Held) (k : Held) (entries es : List Assignment) → entries ≡ es → (ws : List Write) → ws ≡ pending (k.world).requests
+    → (k.world).listeners ≡ map (renewed_met entries (k.world).brought ws) (h.world).listeners
+    → k.views ≡ map (view_met entries (k.world).brought ws) (zip (h.world).listeners h.views)
+    → k.counts ≡ map (count_met entries (k.world).brought ws) (zip (zip (h.world).listeners h.views) h.counts)
+    → RefreshesViews h es k
+refreshes h k entries es ee ws we ls vs cs = record {
+  listeners = ls ∙ (λ i. map (renewed_met (ee i) (k.world).brought (we i)) (h.world).listeners);
+  views = vs ∙ (λ i. map (view_met (ee i) (k.world).brought (we i)) (zip (h.world).listeners h.views));
+  counts = cs ∙ (λ i. map (count_met (ee i) (k.world).brought (we i)) (zip (zip (h.world).listeners h.views) h.counts));
+}
 
-  -- what is so of such a world is so of an equal one
-  pub along : (self : World) → w ≡ self → (s : Step) (made : World × Told) → (IsDue w s → IsNext w s made) → IsDue self s → IsNext self s made
-  along self is s made f d = subst (λ v. IsNext v s made) is (f (subst (λ v. IsDue v s) (sym is) d))
+-- where a request is settled, whether it is accepted or refused
+pub settled_views : (h : Held) (id : ℕ) (why : Option Reason) (k : Held) → RefreshesViews h (entries_settled h.world id) k → HasViews h (settling id why) k
+settled_views h id None k has = has
+settled_views h id (Some why) k has = has
+
+module _ (state : State) where
+  abbrev w : World
+  w = world_of state
 
   -- the cover stays the world's where the listeners are renewed
-  pub tied_after : RenewedIsOne → IsTied cover w → (entries : List Assignment) (b' b'' : Brought) (writes : List Write) (ls' : List Listener) (requests' : List Request) (c' : Bool) (out' : List ClientMessage) (gr' : ℕ)
-      → ls' ≡ map (renewed_met entries b'' writes) ls → IsTied cover (world_of limits ls' requests' b' cover c' out' gl gr')
-  tied_after law t entries b' b'' writes ls' requests' c' out' gr' is = record {
-    listened = t.listened ∙ sym (ap registered is ∙ registered_met law entries b'' writes ls);
-    last_tag = t.last_tag;
+  pub tied_after : RenewedIsOne → IsTied state.cover w → (entries : List Assignment) (b : Brought) (writes : List Write) (v : World)
+      → v.limits ≡ w.limits → v.listeners ≡ map (renewed_met entries b writes) w.listeners → IsTied state.cover v
+  tied_after law t entries b writes v limits is = record {
+    listened = t.listened ∙ sym (ap registered is ∙ registered_met law entries b writes w.listeners);
+    last_tag = t.last_tag ∙ (λ i. (sym limits i).last_number);
   }
 
   pub settle_made : AcceptedIsMade → RefusedIsMade → SettledIsNotPending → (id : ℕ) (why : Option Reason) → IsDue w (settling id why)
       → (entries : List Assignment) → entries ≡ entries_settled w id
-      → (requests' : List Request) → requests' ≡ filter (λ (r : Request). not (r.id == id)) requests
-      → (ls' : List Listener) → ls' ≡ map (renewed_met entries b (pending requests')) ls
+      → (requests' : List Request) → requests' ≡ filter (λ (r : Request). not (r.id == id)) state.requests
+      → (ls' : List Listener) → ls' ≡ map (renewed_met entries state.brought (pending requests')) state.listeners.listeners
       → (told : Told) → told.given ≡ None
-      → told.notes.items ≡ option_to_list (option_map (λ seat. record { seat = seat; body = Settled id why }) (option_and_then (λ (r : Request). r.seat) (find (λ (r : Request). r.id == id) requests))) ++ all_told entries b (pending requests') ls
-      → IsNext w (settling id why) (world_of limits ls' requests' b cover c out gl gr, told)
+      → told.notes.items ≡ option_to_list (option_map (λ seat. record { seat = seat; body = Settled id why }) (option_and_then (λ (r : Request). r.seat) (find (λ (r : Request). r.id == id) state.requests))) ++ all_told entries state.brought (pending requests') state.listeners.listeners
+      → IsNext w (settling id why) (record w { listeners = ls'; requests = requests' }, told)
   settle_made accepted refused left id why d entries ee requests' re ls' he told given notes =
       let leaves = settling_leaves accepted refused w id why d in
-      let ws = ap pending re ∙ left requests id in
+      let ws = ap pending re ∙ left state.requests id in
       record {
         world = (λ i. record w {
-          listeners = (he ∙ (λ j. map (renewed_met (ee j) b (ws j)) ls)) i;
+          listeners = (he ∙ (λ j. map (renewed_met (ee j) state.brought (ws j)) state.listeners.listeners)) i;
           requests = re i;
         }) ∙ sym leaves.world;
         given = given ∙ sym (none_given w id why);
-        notes = notes ∙ (λ i. option_to_list (told_seat id why requests i) ++ all_told (ee i) b (ws i) ls) ∙ sym leaves.notes;
+        notes = notes ∙ (λ i. option_to_list (told_seat id why state.requests i) ++ all_told (ee i) state.brought (ws i) state.listeners.listeners) ∙ sym leaves.notes;
       }
 
   pub push_made : PushIsMade → (parts : List Part) → IsDue w (Step.Push parts)
-      → (b' : Brought) → b' ≡ fold (λ (x : Brought) (p : Part). option_map_or (λ q. fold (push q) x p.1) (option_map (λ (k : Tagged). k.form) (listen_at cover p.0)) x) b parts
+      → (b' : Brought) → b' ≡ fold (λ (x : Brought) (p : Part). option_map_or (λ q. fold (push q) x p.1) (option_map (λ (k : Tagged). k.form) (listen_at state.cover p.0)) x) state.brought parts
       → (entries : List Assignment) → entries ≡ entries_pushed parts
-      → (ls' : List Listener) → ls' ≡ map (renewed_met entries b' (pending requests)) ls
-      → (told : Told) → told.given ≡ None → told.notes.items ≡ all_told entries b' (pending requests) ls
-      → IsNext w (Step.Push parts) (world_of limits ls' requests b' cover c out gl gr, told)
+      → (ls' : List Listener) → ls' ≡ map (renewed_met entries b' (pending state.requests)) state.listeners.listeners
+      → (told : Told) → told.given ≡ None → told.notes.items ≡ all_told entries b' (pending state.requests) state.listeners.listeners
+      → IsNext w (Step.Push parts) (record w { listeners = ls'; brought = b' }, told)
   push_made law parts d b' be entries ee ls' he told given notes =
       let s : Step = Step.Push parts in
       let leaves = law w s parts refl (made_of w s d) d.good.reached in
       record {
         world = (λ i. record w {
-          listeners = (he ∙ (λ j. map (renewed_met (ee j) (be j) (pending requests)) ls)) i;
+          listeners = (he ∙ (λ j. map (renewed_met (ee j) (be j) (pending state.requests)) state.listeners.listeners)) i;
           brought = be i;
         }) ∙ sym leaves.world;
         given = given;
-        notes = notes ∙ (λ i. all_told (ee i) (be i) (pending requests) ls) ∙ sym leaves.notes;
+        notes = notes ∙ (λ i. all_told (ee i) (be i) (pending state.requests) state.listeners.listeners) ∙ sym leaves.notes;
       }
 
   pub write_made : WriteIsMade → WriteIsPending → (seat : ℕ) (action : Action) → IsDue w (Step.Write seat action)
       → (entries : List Assignment) → entries ≡ entries_of action
-      → (requests' : List Request) → requests' ≡ requests ++ record { id = gr + 1; seat = Some seat; asked = Now action } ∷ []
-      → (ls' : List Listener) → ls' ≡ map (renewed_met entries b (pending requests')) ls
-      → (out' : List ClientMessage) → out' ≡ out ++ asked_sent c (gr + 1) (Now action)
-      → (told : Told) → told.given ≡ Some (gr + 1) → told.notes.items ≡ all_told entries b (pending requests') ls
-      → IsNext w (Step.Write seat action) (world_of limits ls' requests' b cover c out' gl (gr + 1), told)
+      → (requests' : List Request) → requests' ≡ state.requests ++ record { id = state.given_requests + 1; seat = Some seat; asked = Now action } ∷ []
+      → (ls' : List Listener) → ls' ≡ map (renewed_met entries state.brought (pending requests')) state.listeners.listeners
+      → (out' : List ClientMessage) → out' ≡ state.outgoing.items ++ asked_sent state.is_connected (state.given_requests + 1) (Now action)
+      → (told : Told) → told.given ≡ Some (state.given_requests + 1) → told.notes.items ≡ all_told entries state.brought (pending requests') state.listeners.listeners
+      → IsNext w (Step.Write seat action) (record w { listeners = ls'; requests = requests'; outgoing = out'; next_request = state.given_requests + 1 + 1 }, told)
   write_made law more seat action d entries ee requests' re ls' he out' oe told given notes =
       let leaves = law w seat action (made_of w (Step.Write seat action) d) d.good.reached in
-      let ws : pending requests' ≡ writes_with w action = ap pending re ∙ more requests (gr + 1) (Some seat) action in
+      let ws : pending requests' ≡ writes_with w action = ap pending re ∙ more state.requests (state.given_requests + 1) (Some seat) action in
       record {
         world = (λ i. record w {
-          listeners = (he ∙ (λ j. map (renewed_met (ee j) b (ws j)) ls)) i;
+          listeners = (he ∙ (λ j. map (renewed_met (ee j) state.brought (ws j)) state.listeners.listeners)) i;
           requests = re i;
           outgoing = oe i;
-          next_request = gr + 1 + 1;
+          next_request = state.given_requests + 1 + 1;
         }) ∙ sym leaves.world;
         given = given;
-        notes = notes ∙ (λ i. all_told (ee i) b (ws i) ls) ∙ sym leaves.notes;
+        notes = notes ∙ (λ i. all_told (ee i) state.brought (ws i) state.listeners.listeners) ∙ sym leaves.notes;
       }
 
-  pub connect_made : ConnectedIsMade → IsDue w Step.Connected → (out' : List ClientMessage) → out' ≡ ClientMessage.Hello VERSION ∷ (listens_shown (shown cover) ++ map request_message requests)
-      → (told : Told) → told.given ≡ None → told.notes.items ≡ [] → IsNext w Step.Connected (world_of limits ls requests b cover true out' gl gr, told)
+  pub connect_made : ConnectedIsMade → IsDue w Step.Connected → (out' : List ClientMessage) → out' ≡ ClientMessage.Hello VERSION ∷ (listens_shown (shown state.cover) ++ map request_message state.requests)
+      → (told : Told) → told.given ≡ None → told.notes.items ≡ [] → IsNext w Step.Connected (record w { is_connected = true; outgoing = out' }, told)
   connect_made law d out' oe told given notes =
       let leaves = law w (made_of w Step.Connected d) d.good.reached in
       record {
         world = (λ i. record w {
           is_connected = true;
-          outgoing = (oe ∙ ap (λ ms. ClientMessage.Hello VERSION ∷ (ms ++ map request_message requests)) (listens_same cover.listeners cover.kept)) i;
+          outgoing = (oe ∙ ap (λ ms. ClientMessage.Hello VERSION ∷ (ms ++ map request_message state.requests)) (listens_same state.cover.listeners state.cover.kept)) i;
         }) ∙ sym leaves.world;
         given = given;
         notes = notes ∙ sym leaves.notes;
       }
 
   pub disconnect_made : DisconnectedIsMade → IsDue w Step.Disconnected → (out' : List ClientMessage) → out' ≡ []
-      → (told : Told) → told.given ≡ None → told.notes.items ≡ [] → IsNext w Step.Disconnected (world_of limits ls requests b cover false out' gl gr, told)
+      → (told : Told) → told.given ≡ None → told.notes.items ≡ [] → IsNext w Step.Disconnected (record w { is_connected = false; outgoing = out' }, told)
   disconnect_made law d out' oe told given notes =
       let leaves = law w (made_of w Step.Disconnected d) d.good.reached in
       record {
@@ -225,17 +241,17 @@ module _ (limits : Limits) (ls : List Listener) (requests : List Request) (b : B
       }
 
   pub ask_made : EndingIsMade → (seat : ℕ) (ending : Ending) → IsDue w (Step.OnDisconnect seat ending)
-      → (out' : List ClientMessage) → out' ≡ out ++ asked_sent c (gr + 1) (AtDisconnect ending)
-      → (requests' : List Request) → requests' ≡ requests ++ record { id = gr + 1; seat = Some seat; asked = AtDisconnect ending } ∷ []
-      → (told : Told) → told.given ≡ Some (gr + 1) → told.notes.items ≡ []
-      → IsNext w (Step.OnDisconnect seat ending) (world_of limits ls requests' b cover c out' gl (gr + 1), told)
+      → (out' : List ClientMessage) → out' ≡ state.outgoing.items ++ asked_sent state.is_connected (state.given_requests + 1) (AtDisconnect ending)
+      → (requests' : List Request) → requests' ≡ state.requests ++ record { id = state.given_requests + 1; seat = Some seat; asked = AtDisconnect ending } ∷ []
+      → (told : Told) → told.given ≡ Some (state.given_requests + 1) → told.notes.items ≡ []
+      → IsNext w (Step.OnDisconnect seat ending) (record w { requests = requests'; outgoing = out'; next_request = state.given_requests + 1 + 1 }, told)
   ask_made law seat ending d out' oe requests' re told given notes =
       let leaves = law w seat ending (made_of w (Step.OnDisconnect seat ending) d) d.good.reached in
       record {
         world = (λ i. record w {
           requests = re i;
           outgoing = oe i;
-          next_request = gr + 1 + 1;
+          next_request = state.given_requests + 1 + 1;
         }) ∙ sym leaves.world;
         given = given;
         notes = notes ∙ sym leaves.notes;

@@ -40,7 +40,7 @@ use Rattle.rt_world.specs.laws.Touch.{ElseFewAreSeen, SeenAreChildren, Stays, To
 use Rattle.rt_sync.specs.Core.{Held, without_first}
 use Rattle.rt_sync.specs.Reads.{IsTurn, ReadsNamed, TurnsOnce, most_read, view_held}
 use Rattle.rt_sync.specs.inside.Due.{IsDue, settling}
-use Rattle.rt_sync.specs.inside.Viewed.{ArePaired, HasViews, HasViewsBy, IsViewed, LeavesViews, Pairs, RefreshesViews, ShowsSeen, all_in}
+use Rattle.rt_sync.specs.inside.Viewed.{ArePaired, HasViews, HasViewsBy, IsViewed, LeavesViews, Pairs, ShowsSeen, all_in}
 use Rattle.rt_sync.proofs.TagLaws.{other_number}
 use Rattle.rt_sync.proofs.Uncovered.{uncovered_unmoved, unmet_uncovered}
 

@@ -3,4 +3,5 @@ pub mod Losing
 pub mod Moving
 pub mod Parts
 pub mod StateView
+pub mod States
 pub mod Viewed

@@ -36,16 +36,13 @@ fn stale_report(alloc: Global) -> Report
 impl State {
     ghost use Rattle.rt_world.specs.After.{kind};
     ghost use Rattle.rt_world.specs.Refusals.{refusal, is_stale};
-    ghost use Rattle.rt_world.specs.Answers.{step as the_step};
-    ghost use Rattle.rt_sync.specs.inside.Due.{IsGood, IsDue, IsNext};
-    ghost use Rattle.rt_sync.specs.inside.Viewed.{AreViewed, FollowsStep, HasViews};
+    ghost use Rattle.rt_sync.specs.inside.StateView.{world_of};
+    ghost use Rattle.rt_sync.specs.inside.States.{HoldsWell, IsReady, Makes, Takes};
 
     // The step, which is neither refused nor stale.
-    fn next(self, step: Step) -> Result<(State, Told), AllocError>
-        requires due { IsDue self.world step }
-        requires viewed { AreViewed self }
-        ensures made { IfOk result (λ made. IsNext self.world step (made.0.world, made.1)) }
-        ensures views { IfOk result (λ made. HasViews self step made.0) }
+    fn next(&mut self, step: Step) -> Result<Told, AllocError>
+        requires { IsReady self.old step }
+        ensures made { IfOk result (λ told. Makes self.old step self.new told) }
         ensures not_closing { OnErr result ((kind step).closes ≡ false) }
     {
         match step {
@@ -66,14 +63,11 @@ impl State {
     }
 
     // The step, and its report, where it is not refused.
-    fn make(self, step: Step) -> Result<(State, Report), AllocError>
-        requires good { IsGood self.world }
-        requires viewed { AreViewed self }
-        requires not_refused { refusal self.world step ≡ None }
-        ensures made { IfOk result (λ made.
-            the_step self.world step ≡ (made.0.world, Ok made.1)) }
-        ensures views { IfOk result (λ made. FollowsStep self step made.0) }
-        ensures not_stale { OnErr result (is_stale self.world step ≡ false) }
+    fn make(&mut self, step: Step) -> Result<Report, AllocError>
+        requires well { HoldsWell self.old }
+        requires not_refused { refusal (world_of self.old) step ≡ None }
+        ensures made { IfOk result (λ report. Takes self.old step self.new (Ok report)) }
+        ensures not_stale { OnErr result (is_stale (world_of self.old) step ≡ false) }
         ensures not_closing { OnErr result ((kind step).closes ≡ false) }
     {
         // For the prover: what a step answers that is not refused, what it brings, which listeners stay, and
@@ -84,29 +78,26 @@ impl State {
         stay_law();
         touch_law();
         if self.is_stale(&step) {
-            let report = stale_report(self.alloc());
-            return Ok((self, report));
+            return Ok(stale_report(self.alloc()));
         }
-        let (state, told) = self.next(step)?;
-        Ok((state, done_report(told)))
+        let told = self.next(step)?;
+        Ok(done_report(told))
     }
 
     // The step, and its answer.
-    pub(crate) fn after(self, step: Step) -> Result<(State, Result<Report, CoreError>), AllocError>
-        requires good { IsGood self.world }
-        requires viewed { AreViewed self }
-        ensures ok { IfOk result (λ made. (made.0.world, made.1) ≡ the_step self.world step) }
-        ensures views { IfOk result (λ made. FollowsStep self step made.0) }
-        ensures not_refused { OnErr result (refusal self.world step ≡ None) }
-        ensures not_stale { OnErr result (is_stale self.world step ≡ false) }
+    pub(crate) fn after(&mut self, step: Step) -> Result<Result<Report, CoreError>, AllocError>
+        requires { HoldsWell self.old }
+        ensures made { IfOk result (λ answer. Takes self.old step self.new answer) }
+        ensures not_refused { OnErr result (refusal (world_of self.old) step ≡ None) }
+        ensures not_stale { OnErr result (is_stale (world_of self.old) step ≡ false) }
         ensures not_closing { OnErr result ((kind step).closes ≡ false) }
     {
         // For the prover: what a refused step answers.
         answer_law();
         if let Some(error) = self.refusal(&step) {
-            return Ok((self, Err(error)));
+            return Ok(Err(error));
         }
-        let (state, report) = self.make(step)?;
-        Ok((state, Ok(report)))
+        let report = self.make(step)?;
+        Ok(Ok(report))
     }
 }

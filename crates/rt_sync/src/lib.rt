@@ -59,12 +59,15 @@ impl Drop for Core {
 
 impl Model for Core {
     ghost use Rattle.std.specs.Prelude.{Option, IfSome};
+    ghost use Rattle.std.specs.Option.{option_map};
     ghost use Rattle.rt_sync.specs.Core.{Held};
-    ghost use Rattle.rt_sync.specs.inside.Viewed.{HoldsWell};
 
     ghost Value = { Option Held };
 
-    ghost view = { λ a. a.state };
+    ghost use Rattle.rt_sync.specs.inside.StateView.{held_of};
+    ghost use Rattle.rt_sync.specs.inside.States.{HoldsWell};
+
+    ghost view = { λ a. option_map held_of a.state };
 
     ghost invariant = { λ a. IfSome a.state HoldsWell };
 }
@@ -105,16 +108,18 @@ impl Core {
         ensures reads { Reads self.old step self.new }
         ensures counts { Counts self.old self.new }
     {
-        let Some(state) = self.state.take() else {
-            return Err(CoreError::Failed);
-        };
         // For the prover: what holds after a step.
         steady_law();
         holding_law();
         answer_law();
-        let (state, answer) = state.after(step)?;
-        self.state = Some(state);
-        answer
+        let Some(state) = &mut self.state else {
+            return Err(CoreError::Failed);
+        };
+        if let Ok(answer) = state.after(step) {
+            return answer;
+        }
+        self.state = None;
+        Err(CoreError::NoMemory)
     }
 
     /// Why [`Core::apply`] refuses such a step; none where the step is due, or is stale. Takes no
@@ -167,11 +172,9 @@ impl Core {
     {
         // For the prover: what holds between steps holds without the message.
         sending_law();
-        let Some(mut state) = self.state.take() else {
+        let Some(state) = &mut self.state else {
             return None;
         };
-        let message = state.take_outgoing();
-        self.state = Some(state);
-        message
+        state.take_outgoing()
     }
 }

@@ -7,12 +7,13 @@ use rt_world::{CoreError, Step};
 
 impl State {
     ghost use Rattle.rt_world.specs.Refusals.{is_stale, refusal};
-    ghost use Rattle.rt_sync.specs.inside.Due.{IsGood};
+    ghost use Rattle.rt_sync.specs.inside.StateView.{world_of};
+    ghost use Rattle.rt_sync.specs.inside.States.{HoldsWell};
 
     // The first refusal whose condition holds.
     pub(crate) fn refusal(&self, step: &Step) -> Option<CoreError>
-        requires { IsGood self.now.world }
-        ensures { result ≡ refusal self.now.world step.now }
+        requires { HoldsWell self.now }
+        ensures { result ≡ refusal (world_of self.now) step.now }
     {
         match step {
             Step::Listen { query, .. } => self.listen_refusal(query),
@@ -33,7 +34,7 @@ impl State {
 
     // Whether the step comes too late: only what the server sends can.
     pub(crate) fn is_stale(&self, step: &Step) -> bool
-        ensures { result ≡ is_stale self.now.world step.now }
+        ensures { result ≡ is_stale (world_of self.now) step.now }
     {
         match step {
             Step::Data { tag, path, .. } => self.data_is_stale(*tag, path),

@@ -1,7 +1,9 @@
 // What a core shows of itself.
-ghost use Rattle.std.specs.Prelude.{◌≡◌, ◌⊎◌, Ok, Err};
+ghost use Rattle.std.specs.Prelude.{◌≡◌, ◌⊎◌, drop, Ok, Err};
 ghost use Rattle.rt_world.specs.World.{cover};
-ghost use Rattle.rt_sync.specs.Core.{HasView, first_message, view_in, without_first};
+ghost use Rattle.rt_sync.specs.Core.{HasView, first_message, view_in};
+ghost use Rattle.rt_sync.specs.inside.StateView.{world_of};
+ghost use Rattle.rt_sync.specs.inside.States.{HoldsWell};
 
 use crate::state::State;
 use rt_cover::KeptList;
@@ -14,7 +16,8 @@ impl State {
 
     // The kept listens, by tag.
     pub(crate) fn cover(&self) -> Result<KeptList, CoreError>
-        ensures { (result ≡ Ok (cover self.now.world)) ⊎ (result ≡ Err CoreError.NoMemory) }
+        requires { HoldsWell self.now }
+        ensures { (result ≡ Ok (cover (world_of self.now))) ⊎ (result ≡ Err CoreError.NoMemory) }
     {
         match self.cover.open() {
             Ok(list) => Ok(list),
@@ -24,8 +27,8 @@ impl State {
 
     // What the listener of that number shows.
     pub(crate) fn view(&self, listener: u64) -> Result<Option<Shown>, CoreError>
-        ensures { (result ≡ view_in self.now.world listener)
-            ⊎ ((result ≡ Err CoreError.NoMemory) × HasView self.now.world listener) }
+        ensures { (result ≡ view_in (world_of self.now) listener)
+            ⊎ ((result ≡ Err CoreError.NoMemory) × HasView (world_of self.now) listener) }
     {
         match self.listeners.shown(listener) {
             Ok(shown) => Ok(shown),
@@ -36,12 +39,9 @@ impl State {
 
     // Takes the first message out.
     pub(crate) fn take_outgoing(&mut self) -> Option<ClientMessage>
-        ensures message { result ≡ first_message self.old.world.outgoing }
-        ensures rest { self.new ≡ record {
-          world = without_first self.old.world;
-          views = self.old.views;
-          counts = self.old.counts;
-        } }
+        ensures message { result ≡ first_message self.old.outgoing.items }
+        ensures rest { self.new.outgoing.items ≡ drop 1 self.old.outgoing.items }
+        ensures kept { self.new ≡ record (self.old) { outgoing = self.new.outgoing } }
     {
         self.outgoing.pop_front()
     }

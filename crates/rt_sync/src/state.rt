@@ -7,10 +7,10 @@ use rt_parts::{Listeners, Requests};
 use rt_world::{ClientMessage, Limits};
 use std::alloc::Global;
 use std::collections::VecDeque;
-use std::marker::Model;
 
 // Listeners and unsettled requests by number, what the listens brought, the listens kept, the
-// messages to be sent, and the numbers given last.
+// messages to be sent, and the numbers given last. It has no model: a step that lacks memory leaves it
+// as it may be, and nothing is said of it then.
 #[derive(Drop)]
 pub(crate) struct State {
     pub(crate) limits: Limits,
@@ -24,30 +24,14 @@ pub(crate) struct State {
     pub(crate) given_requests: u64,
 }
 
-impl Model for State {
-    ghost use Rattle.rt_sync.specs.Core.{Held};
-    ghost use Rattle.rt_sync.specs.inside.StateView.{world_of, IsTied};
-
-    ghost Value = { Held };
-
-    ghost view = { λ a. record {
-      world = world_of a.limits a.listeners.listeners a.requests a.brought a.cover
-          a.is_connected a.outgoing.items a.given_listeners a.given_requests;
-      views = a.listeners.views;
-      counts = a.listeners.counts;
-    } };
-
-    ghost invariant = { λ a. IsTied a.cover
-        (world_of a.limits a.listeners.listeners a.requests a.brought a.cover
-        a.is_connected a.outgoing.items a.given_listeners a.given_requests) };
-}
-
 impl State {
     ghost use Rattle.rt_sync.specs.Core.{empty_held};
+    ghost use Rattle.rt_sync.specs.inside.StateView.{held_of, world_of, IsTied};
 
     // No listener, no request, no connection.
     pub(crate) fn new(alloc: Global, limits: Limits) -> State
-        ensures { result ≡ empty_held limits }
+        ensures held { held_of result ≡ empty_held limits }
+        ensures tied { IsTied result.cover (world_of result) }
     {
         let last_tag = limits.last_number;
         State {

@@ -1,26 +1,31 @@
 -- What a core holds, as a world.
-use Rattle.std.specs.Prelude.{◌≡◌, ℕ, ◌+◌, Bool, List}
-use Rattle.rt_cache.specs.Brought.{Brought}
+use Rattle.std.specs.Prelude.{◌≡◌, ◌+◌}
 use Rattle.rt_cover.specs.State.{Cover}
-use Rattle.rt_wire.specs.declared.client.ClientMessage.{ClientMessage}
-use Rattle.rt_world.specs.declared.limits.Limits.{Limits}
-use Rattle.rt_world.specs.declared.request.Request.{Request}
-use Rattle.rt_world.specs.World.{Listener, World, registered}
+use Rattle.rt_world.specs.World.{World, registered}
+use Rattle.rt_sync.specs.declared.state.State.{State}
+use Rattle.rt_sync.specs.Core.{Held}
 
 -- the world: listens and tags are the cover's
-abbrev pub world_of : Limits → List Listener → List Request → Brought → Cover → Bool
-    → List ClientMessage → ℕ → ℕ → World
-world_of limits listeners requests brought cover is_connected outgoing listener request = record {
-  limits = limits;
-  listeners = listeners;
-  requests = requests;
-  brought = brought;
-  kept = cover.kept;
-  is_connected = is_connected;
-  outgoing = outgoing;
-  next_listener = listener + 1;
-  next_request = request + 1;
-  next_tag = cover.next_tag;
+abbrev pub world_of : State → World
+world_of state = record {
+  limits = state.limits;
+  listeners = state.listeners.listeners;
+  requests = state.requests;
+  brought = state.brought;
+  kept = state.cover.kept;
+  is_connected = state.is_connected;
+  outgoing = state.outgoing.items;
+  next_listener = state.given_listeners + 1;
+  next_request = state.given_requests + 1;
+  next_tag = state.cover.next_tag;
+}
+
+-- with the views and counts of its listeners
+abbrev pub held_of : State → Held
+held_of state = record {
+  world = world_of state;
+  views = state.listeners.views;
+  counts = state.listeners.counts;
 }
 
 -- the parts agree: the cover has the world's listeners and last tag

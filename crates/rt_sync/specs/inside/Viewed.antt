@@ -19,7 +19,6 @@ use Rattle.rt_parts.specs.Refreshed.{count_met, view_met}
 use Rattle.rt_parts.specs.Renewed.{count_of, renewed_of, view_of}
 use Rattle.rt_sync.specs.Core.{Held}
 use Rattle.rt_sync.specs.Reads.{IsCounted, ReadsNamed}
-use Rattle.rt_sync.specs.inside.Due.{IsGood}
 
 -- a view that is held of a listener: of its query, over a tree with the children that it sees
 pub record ShowsSeen (w : World) (l : Listener) (v : View) : Type 0 where
@@ -58,11 +57,6 @@ pub record AreViewed (h : Held) : Type 0 where
 -- the listeners with what is held of each
 abbrev pub all_in : Held → Listeners
 all_in h = record { listeners = (h.world).listeners; views = h.views; counts = h.counts }
-
--- what holds between steps
-pub record HoldsWell (h : Held) : Type 0 where
-  pub good : IsGood h.world
-  pub viewed : AreViewed h
 
 -- ---- what a step makes of them
 

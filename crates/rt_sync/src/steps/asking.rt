@@ -1,5 +1,5 @@
 // A seat asks the server for something: a write, or what is to be done when the connection ends.
-ghost use Rattle.std.specs.Prelude.{◌≡◌, ◌∷◌, ◌||◌, [], ℕ, length, nat_le, nat_lt, IfOk};
+ghost use Rattle.std.specs.Prelude.{◌≡◌, ◌∷◌, ◌||◌, ◌+◌, [], ℕ, length, nat_le, nat_lt, IfOk};
 ghost use Rattle.std.specs.List.{list_any};
 ghost use Rattle.rt_tree.specs.Assignments.{have_overlap};
 ghost use Rattle.rt_world.specs.declared.error.CoreError.TheVariants as CoreError;
@@ -39,13 +39,13 @@ impl State {
     ghost use Rattle.rt_wire.specs.declared.request.Asked.TheVariants as Asked;
     ghost use Rattle.rt_world.specs.declared.step.Step.TheVariants as Step;
     ghost use Rattle.rt_world.specs.Refusals.{refusal};
-    ghost use Rattle.rt_sync.specs.inside.Due.{IsDue, IsNext};
-    ghost use Rattle.rt_sync.specs.inside.Viewed.{AreViewed, HasViews};
+    ghost use Rattle.rt_sync.specs.inside.StateView.{world_of};
+    ghost use Rattle.rt_sync.specs.inside.States.{IsReady, Makes};
 
     // Whether the limit of unsettled requests is reached, or the last number.
     fn has_too_many_requests(&self) -> bool
-        ensures { result ≡ (nat_le self.now.world.limits.requests (length self.now.world.requests)
-            || nat_lt self.now.world.limits.last_number self.now.world.next_request) }
+        ensures { result ≡ (nat_le self.now.limits.requests (length self.now.requests)
+            || nat_lt self.now.limits.last_number (self.now.given_requests + 1)) }
     {
         self.requests.len() as u64 >= u64::from(self.limits.requests)
             || self.given_requests >= self.limits.last_number
@@ -53,7 +53,7 @@ impl State {
 
     // Why a write is refused.
     pub(crate) fn write_refusal(&self, action: &Action) -> Option<CoreError>
-        ensures { (seat : ℕ) → result ≡ refusal self.now.world (Step.Write seat action.now) }
+        ensures { (seat : ℕ) → result ≡ refusal (world_of self.now) (Step.Write seat action.now) }
     {
         if self.has_too_many_requests() {
             return Some(CoreError::TooManyRequests);
@@ -63,7 +63,7 @@ impl State {
 
     // Why what is asked for the end of the connection is refused.
     pub(crate) fn on_disconnect_refusal(&self, ending: &Ending) -> Option<CoreError>
-        ensures { (seat : ℕ) → result ≡ refusal self.now.world (Step.OnDisconnect seat ending.now) }
+        ensures { (seat : ℕ) → result ≡ refusal (world_of self.now) (Step.OnDisconnect seat ending.now) }
     {
         if self.has_too_many_requests() {
             return Some(CoreError::TooManyRequests);
@@ -75,12 +75,9 @@ impl State {
     }
 
     // A seat writes: the write shows at once, and is asked for.
-    pub(crate) fn write(self, seat: u64, action: Action) -> Result<(State, Told), AllocError>
-        requires due { IsDue self.world (Step.Write seat action) }
-        requires viewed { AreViewed self }
-        ensures made { IfOk result (λ made.
-            IsNext self.world (Step.Write seat action) (made.0.world, made.1)) }
-        ensures views { IfOk result (λ made. HasViews self (Step.Write seat action) made.0) }
+    pub(crate) fn write(&mut self, seat: u64, action: Action) -> Result<Told, AllocError>
+        requires { IsReady self.old (Step.Write seat action) }
+        ensures { IfOk result (λ told. Makes self.old (Step.Write seat action) self.new told) }
     {
         // For the prover: what such a step leaves, and what may be asked.
         asked_law();
@@ -89,59 +86,51 @@ impl State {
         stay_law();
         brought_law();
         touch_law();
+        // For the prover: the last number is one of its type.
+        let _last_number = self.limits.last_number;
         let alloc = self.alloc();
-        let mut state = self;
-        let id = state.given_requests + 1;
+        let id = self.given_requests + 1;
         let asked = Asked::Now(action);
-        send_asked(alloc, &mut state.outgoing, state.is_connected, id, &asked)?;
-        state.requests.add(id, seat, asked)?;
+        send_asked(alloc, &mut self.outgoing, self.is_connected, id, &asked)?;
+        self.requests.add(id, seat, asked)?;
         let mut notes = Vec::new(alloc);
-        let pending = state.requests.pending();
+        let pending = self.requests.pending();
         let Some(entries) = pending.entries(id) else {
             unreachable!()
         };
-        state
-            .listeners
-            .refresh(entries, &state.brought, pending, &mut notes)?;
-        state.given_requests = id;
-        Ok((
-            state,
-            Told {
-                given: Some(id),
-                notes,
-            },
-        ))
+        self.listeners
+            .refresh(entries, &self.brought, pending, &mut notes)?;
+        self.given_requests = id;
+        Ok(Told {
+            given: Some(id),
+            notes,
+        })
     }
 
     // A seat asks for what is to be done when the connection ends; nothing shows.
     pub(crate) fn ask_at_disconnect(
-        self,
+        &mut self,
         seat: u64,
         ending: Ending,
-    ) -> Result<(State, Told), AllocError>
-        requires due { IsDue self.world (Step.OnDisconnect seat ending) }
-        requires viewed { AreViewed self }
-        ensures made { IfOk result (λ made.
-            IsNext self.world (Step.OnDisconnect seat ending) (made.0.world, made.1)) }
-        ensures views { IfOk result (λ made. HasViews self (Step.OnDisconnect seat ending) made.0) }
+    ) -> Result<Told, AllocError>
+        requires { IsReady self.old (Step.OnDisconnect seat ending) }
+        ensures { IfOk result (λ told. Makes self.old (Step.OnDisconnect seat ending) self.new told) }
     {
         // For the prover: what such a step leaves, and what may be asked.
         asked_law();
         refusal_law();
+        // For the prover: the last number is one of its type.
+        let _last_number = self.limits.last_number;
         let alloc = self.alloc();
-        let mut state = self;
-        let id = state.given_requests + 1;
+        let id = self.given_requests + 1;
         let asked = Asked::AtDisconnect(ending);
-        send_asked(alloc, &mut state.outgoing, state.is_connected, id, &asked)?;
-        state.requests.add(id, seat, asked)?;
-        state.given_requests = id;
+        send_asked(alloc, &mut self.outgoing, self.is_connected, id, &asked)?;
+        self.requests.add(id, seat, asked)?;
+        self.given_requests = id;
         let notes = Vec::new(alloc);
-        Ok((
-            state,
-            Told {
-                given: Some(id),
-                notes,
-            },
-        ))
+        Ok(Told {
+            given: Some(id),
+            notes,
+        })
     }
 }

@@ -33,13 +33,13 @@ impl Choice for OfSeat<'_> {
 impl State {
     ghost use Rattle.rt_world.specs.declared.step.Step.TheVariants as Step;
     ghost use Rattle.rt_world.specs.Refusals.{needs_tag, refusal};
-    ghost use Rattle.rt_sync.specs.inside.Due.{IsDue, IsGood, IsNext};
-    ghost use Rattle.rt_sync.specs.inside.Viewed.{HasViews};
+    ghost use Rattle.rt_sync.specs.inside.StateView.{world_of};
+    ghost use Rattle.rt_sync.specs.inside.States.{HoldsWell, IsReady, Makes};
 
     // Whether the end of all listeners of the seat would need a tag above the last one.
     fn lacks_tag_to_close(&self, seat: u64) -> bool
-        requires { IsGood self.now.world }
-        ensures { result ≡ needs_tag self.now.world (Step.CloseSeat seat) }
+        requires { HoldsWell self.now }
+        ensures { result ≡ needs_tag (world_of self.now) (Step.CloseSeat seat) }
     {
         // For the prover: when a step lacks a tag.
         tag_law();
@@ -51,8 +51,8 @@ impl State {
 
     // Why a seat can't go.
     pub(crate) fn close_seat_refusal(&self, seat: u64) -> Option<CoreError>
-        requires { IsGood self.now.world }
-        ensures { result ≡ refusal self.now.world (Step.CloseSeat seat) }
+        requires { HoldsWell self.now }
+        ensures { result ≡ refusal (world_of self.now) (Step.CloseSeat seat) }
     {
         if self.lacks_tag_to_close(seat) {
             return Some(CoreError::TooManyListeners);
@@ -62,10 +62,9 @@ impl State {
 
     // A seat goes: its listeners end, and its requests stay, without a seat. Other seats are told where
     // their listeners' views change since these are moved.
-    pub(crate) fn close_seat(self, seat: u64) -> Result<(State, Told), AllocError>
-        requires { IsDue self.world (Step.CloseSeat seat) }
-        ensures made { IfOk result (λ made. IsNext self.world (Step.CloseSeat seat) (made.0.world, made.1)) }
-        ensures views { IfOk result (λ made. HasViews self (Step.CloseSeat seat) made.0) }
+    pub(crate) fn close_seat(&mut self, seat: u64) -> Result<Told, AllocError>
+        requires { IsReady self.old (Step.CloseSeat seat) }
+        ensures { IfOk result (λ told. Makes self.old (Step.CloseSeat seat) self.new told) }
     {
         // For the prover: what such a step leaves, that the cover takes it, and that what is pending stays.
         listened_law();
@@ -74,26 +73,24 @@ impl State {
         sound_law();
         pending_law();
         let alloc = self.alloc();
-        let mut state = self;
-        let numbers = state.listeners.numbers_of(alloc, seat)?;
-        let ended = forms_of(alloc, &state.cover, &numbers)?;
-        let delta = uncover(&mut state.cover, &numbers)?;
+        let numbers = self.listeners.numbers_of(alloc, seat)?;
+        let ended = forms_of(alloc, &self.cover, &numbers)?;
+        let delta = uncover(&mut self.cover, &numbers)?;
         let moved = lose_ended(
-            &mut state.brought,
-            &state.listeners,
-            &state.cover,
+            &mut self.brought,
+            &self.listeners,
+            &self.cover,
             &numbers,
             ended,
             &delta,
         )?;
-        state.listeners.close(seat);
-        state.requests.close(seat);
+        self.listeners.close(seat);
+        self.requests.close(seat);
         let mut notes = Vec::new(alloc);
-        let pending = state.requests.pending();
-        state
-            .listeners
-            .renew(&moved, &state.brought, pending, &mut notes)?;
-        send_change(&mut state.outgoing, state.is_connected, delta)?;
-        Ok((state, Told { given: None, notes }))
+        let pending = self.requests.pending();
+        self.listeners
+            .renew(&moved, &self.brought, pending, &mut notes)?;
+        send_change(&mut self.outgoing, self.is_connected, delta)?;
+        Ok(Told { given: None, notes })
     }
 }

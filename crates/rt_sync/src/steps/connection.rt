@@ -25,12 +25,12 @@ fn kept_listens(cover: &Cover) -> Result<Vec<Kept>, AllocError>
 impl State {
     ghost use Rattle.rt_world.specs.declared.step.Step.TheVariants as Step;
     ghost use Rattle.rt_world.specs.Refusals.{refusal};
-    ghost use Rattle.rt_sync.specs.inside.Due.{IsDue, IsNext};
-    ghost use Rattle.rt_sync.specs.inside.Viewed.{AreViewed, HasViews};
+    ghost use Rattle.rt_sync.specs.inside.StateView.{world_of};
+    ghost use Rattle.rt_sync.specs.inside.States.{IsReady, Makes};
 
     // Why no connection can be opened.
     pub(crate) fn connect_refusal(&self) -> Option<CoreError>
-        ensures { result ≡ refusal self.now.world Step.Connected }
+        ensures { result ≡ refusal (world_of self.now) Step.Connected }
     {
         if self.is_connected {
             return Some(CoreError::AlreadyConnected);
@@ -40,7 +40,7 @@ impl State {
 
     // Why nothing can come from a connection.
     pub(crate) fn offline_refusal(&self) -> Option<CoreError>
-        ensures { result ≡ first_of ((not self.now.world.is_connected, CoreError.NotConnected) ∷ []) }
+        ensures { result ≡ first_of ((not self.now.is_connected, CoreError.NotConnected) ∷ []) }
     {
         if self.is_connected {
             return None;
@@ -50,46 +50,40 @@ impl State {
 
     // Why no connection can end.
     pub(crate) fn disconnect_refusal(&self) -> Option<CoreError>
-        ensures { result ≡ refusal self.now.world Step.Disconnected }
+        ensures { result ≡ refusal (world_of self.now) Step.Disconnected }
     {
         self.offline_refusal()
     }
 
     // A connection is opened: the version is to be told, then all kept listens, and then all unsettled
     // requests.
-    pub(crate) fn connect(self) -> Result<(State, Told), AllocError>
-        requires due { IsDue self.world Step.Connected }
-        requires viewed { AreViewed self }
-        ensures made { IfOk result (λ made. IsNext self.world Step.Connected (made.0.world, made.1)) }
-        ensures views { IfOk result (λ made. HasViews self Step.Connected made.0) }
+    pub(crate) fn connect(&mut self) -> Result<Told, AllocError>
+        requires { IsReady self.old Step.Connected }
+        ensures { IfOk result (λ told. Makes self.old Step.Connected self.new told) }
     {
         // For the prover: what such a step leaves.
         connection_law();
         let alloc = self.alloc();
-        let mut state = self;
         let mut outgoing = greeted(alloc)?;
-        send_listens(&mut outgoing, kept_listens(&state.cover)?)?;
-        send_requests(alloc, &mut outgoing, &state.requests)?;
-        state.outgoing = outgoing;
-        state.is_connected = true;
+        send_listens(&mut outgoing, kept_listens(&self.cover)?)?;
+        send_requests(alloc, &mut outgoing, &self.requests)?;
+        self.outgoing = outgoing;
+        self.is_connected = true;
         let notes = Vec::new(alloc);
-        Ok((state, Told { given: None, notes }))
+        Ok(Told { given: None, notes })
     }
 
     // The connection ends: what was to be sent is dropped.
-    pub(crate) fn disconnect(self) -> (State, Told)
-        requires due { IsDue self.world Step.Disconnected }
-        requires viewed { AreViewed self }
-        ensures made { IsNext self.world Step.Disconnected (result.0.world, result.1) }
-        ensures views { HasViews self Step.Disconnected result.0 }
+    pub(crate) fn disconnect(&mut self) -> Told
+        requires { IsReady self.old Step.Disconnected }
+        ensures { Makes self.old Step.Disconnected self.new result }
     {
         // For the prover: what such a step leaves.
         connection_law();
         let alloc = self.alloc();
-        let mut state = self;
-        state.outgoing.clear();
-        state.is_connected = false;
+        self.outgoing.clear();
+        self.is_connected = false;
         let notes = Vec::new(alloc);
-        (state, Told { given: None, notes })
+        Told { given: None, notes }
     }
 }

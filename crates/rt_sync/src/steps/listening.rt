@@ -1,5 +1,5 @@
 // Listeners begin and end.
-ghost use Rattle.std.specs.Prelude.{◌≡◌, ◌||◌, ℕ, false, length, nat_le, nat_lt};
+ghost use Rattle.std.specs.Prelude.{◌≡◌, ◌||◌, ◌+◌, ℕ, false, length, nat_le, nat_lt};
 ghost use Rattle.std.specs.Prelude.{None, IfOk, OnOk};
 ghost use Rattle.rt_query.specs.Supply.{form};
 ghost use Rattle.rt_cover.specs.State.{added, add_fault, difference, is_registered, remove_fault};
@@ -11,7 +11,9 @@ use crate::steps::losing::{forms_of, lose_ended};
 use crate::told::Told;
 use rt_cover::{Cover, Delta};
 use rt_query::Query;
-use rt_world::{CoreError, covered_law, following_law, listened_law, sound_law, tag_law};
+use rt_world::{
+    CoreError, covered_law, following_law, listened_law, refusal_law, sound_law, tag_law,
+};
 use std::alloc::AllocError;
 
 // A listener is covered. Only memory can refuse: whether a tag is lacking was looked at.
@@ -44,13 +46,13 @@ pub(crate) fn uncover(cover: &mut Cover, numbers: &[u64]) -> Result<Delta, Alloc
 impl State {
     ghost use Rattle.rt_world.specs.declared.step.Step.TheVariants as Step;
     ghost use Rattle.rt_world.specs.Refusals.{needs_tag, refusal};
-    ghost use Rattle.rt_sync.specs.inside.Due.{IsDue, IsGood, IsNext};
-    ghost use Rattle.rt_sync.specs.inside.Viewed.{HasViews};
+    ghost use Rattle.rt_sync.specs.inside.StateView.{world_of};
+    ghost use Rattle.rt_sync.specs.inside.States.{HoldsWell, IsReady, Makes};
 
     // Whether the limit of listeners is reached, or the last number.
     fn is_full(&self) -> bool
-        ensures { result ≡ (nat_le self.now.world.limits.listeners (length self.now.world.listeners)
-            || nat_lt self.now.world.limits.last_number self.now.world.next_listener) }
+        ensures { result ≡ (nat_le self.now.limits.listeners (length self.now.listeners.listeners)
+            || nat_lt self.now.limits.last_number (self.now.given_listeners + 1)) }
     {
         self.listeners.len() as u64 >= u64::from(self.limits.listeners)
             || self.given_listeners >= self.limits.last_number
@@ -58,8 +60,8 @@ impl State {
 
     // Whether a new listener of the query would need a tag above the last one.
     fn lacks_tag_to_add(&self, query: &Query) -> bool
-        requires { IsGood self.now.world }
-        ensures { (seat : ℕ) → result ≡ needs_tag self.now.world (Step.Listen seat query.now) }
+        requires { HoldsWell self.now }
+        ensures { (seat : ℕ) → result ≡ needs_tag (world_of self.now) (Step.Listen seat query.now) }
     {
         // For the prover: when a step lacks a tag.
         tag_law();
@@ -68,8 +70,8 @@ impl State {
 
     // Why a listener of the query can't be registered.
     pub(crate) fn listen_refusal(&self, query: &Query) -> Option<CoreError>
-        requires { IsGood self.now.world }
-        ensures { (seat : ℕ) → result ≡ refusal self.now.world (Step.Listen seat query.now) }
+        requires { HoldsWell self.now }
+        ensures { (seat : ℕ) → result ≡ refusal (world_of self.now) (Step.Listen seat query.now) }
     {
         if self.is_full() || self.lacks_tag_to_add(query) {
             return Some(CoreError::TooManyListeners);
@@ -79,41 +81,38 @@ impl State {
 
     // A seat registers a listener: it has the next number, and is told at once where something is
     // known for its query.
-    pub(crate) fn listen(self, seat: u64, query: Query) -> Result<(State, Told), AllocError>
-        requires { IsDue self.world (Step.Listen seat query) }
-        ensures made { IfOk result (λ made.
-            IsNext self.world (Step.Listen seat query) (made.0.world, made.1)) }
-        ensures views { IfOk result (λ made. HasViews self (Step.Listen seat query) made.0) }
+    pub(crate) fn listen(&mut self, seat: u64, query: Query) -> Result<Told, AllocError>
+        requires { IsReady self.old (Step.Listen seat query) }
+        ensures { IfOk result (λ told. Makes self.old (Step.Listen seat query) self.new told) }
     {
-        // For the prover: what such a step leaves, and that the cover takes it.
+        // For the prover: what such a step leaves, that the cover takes it, and that a number is left.
         listened_law();
         covered_law();
         following_law();
+        refusal_law();
+        // For the prover: the last number is one of its type.
+        let _last_number = self.limits.last_number;
         let alloc = self.alloc();
-        let mut state = self;
-        let number = state.given_listeners + 1;
+        let number = self.given_listeners + 1;
         let covered = query.copy()?;
-        state.brought.register(&query)?;
-        let delta = cover_new(&mut state.cover, number, covered)?;
+        self.brought.register(&query)?;
+        let delta = cover_new(&mut self.cover, number, covered)?;
         let mut notes = Vec::new(alloc);
-        let pending = state.requests.pending();
-        state
-            .listeners
-            .add(number, seat, query, &state.brought, pending, &mut notes)?;
-        send_change(&mut state.outgoing, state.is_connected, delta)?;
-        state.given_listeners = number;
-        Ok((
-            state,
-            Told {
-                given: Some(number),
-                notes,
-            },
-        ))
+        let pending = self.requests.pending();
+        self.listeners
+            .add(number, seat, query, &self.brought, pending, &mut notes)?;
+        send_change(&mut self.outgoing, self.is_connected, delta)?;
+        self.given_listeners = number;
+        Ok(Told {
+            given: Some(number),
+            notes,
+        })
     }
 
     // Whether the end of the listener would need a tag above the last one.
     fn lacks_tag_to_remove(&self, listener: u64) -> bool
-        ensures { (seat : ℕ) → result ≡ needs_tag self.now.world (Step.Unlisten seat listener) }
+        requires { HoldsWell self.now }
+        ensures { (seat : ℕ) → result ≡ needs_tag (world_of self.now) (Step.Unlisten seat listener) }
     {
         // For the prover: when a step lacks a tag.
         tag_law();
@@ -122,7 +121,8 @@ impl State {
 
     // Why the seat can't end the listener.
     pub(crate) fn unlisten_refusal(&self, seat: u64, listener: u64) -> Option<CoreError>
-        ensures { result ≡ refusal self.now.world (Step.Unlisten seat listener) }
+        requires { HoldsWell self.now }
+        ensures { result ≡ refusal (world_of self.now) (Step.Unlisten seat listener) }
     {
         if !self.listeners.is_seats(seat, listener) {
             return Some(CoreError::UnknownListener);
@@ -134,11 +134,9 @@ impl State {
     }
 
     // A seat ends a listener of its own: those are told whose views change since they are moved.
-    pub(crate) fn unlisten(self, seat: u64, listener: u64) -> Result<(State, Told), AllocError>
-        requires { IsDue self.world (Step.Unlisten seat listener) }
-        ensures made { IfOk result (λ made.
-            IsNext self.world (Step.Unlisten seat listener) (made.0.world, made.1)) }
-        ensures views { IfOk result (λ made. HasViews self (Step.Unlisten seat listener) made.0) }
+    pub(crate) fn unlisten(&mut self, seat: u64, listener: u64) -> Result<Told, AllocError>
+        requires { IsReady self.old (Step.Unlisten seat listener) }
+        ensures { IfOk result (λ told. Makes self.old (Step.Unlisten seat listener) self.new told) }
     {
         // For the prover: what such a step leaves, and that the cover takes it.
         listened_law();
@@ -146,24 +144,22 @@ impl State {
         following_law();
         sound_law();
         let alloc = self.alloc();
-        let mut state = self;
-        let ended = forms_of(alloc, &state.cover, &[listener])?;
-        let delta = uncover(&mut state.cover, &[listener])?;
+        let ended = forms_of(alloc, &self.cover, &[listener])?;
+        let delta = uncover(&mut self.cover, &[listener])?;
         let moved = lose_ended(
-            &mut state.brought,
-            &state.listeners,
-            &state.cover,
+            &mut self.brought,
+            &self.listeners,
+            &self.cover,
             &[listener],
             ended,
             &delta,
         )?;
-        state.listeners.remove(listener);
+        self.listeners.remove(listener);
         let mut notes = Vec::new(alloc);
-        let pending = state.requests.pending();
-        state
-            .listeners
-            .renew(&moved, &state.brought, pending, &mut notes)?;
-        send_change(&mut state.outgoing, state.is_connected, delta)?;
-        Ok((state, Told { given: None, notes }))
+        let pending = self.requests.pending();
+        self.listeners
+            .renew(&moved, &self.brought, pending, &mut notes)?;
+        send_change(&mut self.outgoing, self.is_connected, delta)?;
+        Ok(Told { given: None, notes })
     }
 }

@@ -219,19 +219,19 @@ fn one_part(alloc: Global, tag: u64, entries: Entries) -> Result<Parts, AllocErr
 impl State {
     ghost use Rattle.rt_world.specs.declared.step.Step.TheVariants as Step;
     ghost use Rattle.rt_world.specs.Refusals.{is_stale, refusal};
-    ghost use Rattle.rt_sync.specs.inside.Due.{IsDue, IsNext};
-    ghost use Rattle.rt_sync.specs.inside.Viewed.{AreViewed, HasViews};
+    ghost use Rattle.rt_sync.specs.inside.StateView.{world_of};
+    ghost use Rattle.rt_sync.specs.inside.States.{IsReady, Makes};
 
     // The query of the kept listen with that tag.
     pub(crate) fn listen_of(&self, tag: u64) -> Option<&Query>
-        ensures { option_copied result ≡ listen_of self.now.world tag }
+        ensures { option_copied result ≡ listen_of (world_of self.now) tag }
     {
         self.cover.form_at(tag)
     }
 
     // Whether a path of these entries is outside the listen's.
     fn is_outside_listen(&self, tag: u64, entries: &[(Path, Tree)]) -> bool
-        ensures { result ≡ not (is_within_listen self.now.world (tag, entries.now)) }
+        ensures { result ≡ not (is_within_listen (world_of self.now) (tag, entries.now)) }
     {
         match self.listen_of(tag) {
             Some(query) => !are_under(entries, query.path()),
@@ -241,7 +241,7 @@ impl State {
 
     // Whether the path of a pushed tree is outside the listen's.
     fn is_path_outside(&self, tag: u64, path: &Path, tree: &Tree) -> bool
-        ensures { result ≡ not (is_within_listen self.now.world (tag, (path.now, tree.now) ∷ [])) }
+        ensures { result ≡ not (is_within_listen (world_of self.now) (tag, (path.now, tree.now) ∷ [])) }
     {
         match self.listen_of(tag) {
             Some(query) => !query.path().is_prefix_of(path),
@@ -251,7 +251,7 @@ impl State {
 
     // Why a push of a tree is refused.
     pub(crate) fn data_refusal(&self, tag: u64, path: &Path, tree: &Tree) -> Option<CoreError>
-        ensures { result ≡ refusal self.now.world (Step.Data tag path.now tree.now) }
+        ensures { result ≡ refusal (world_of self.now) (Step.Data tag path.now tree.now) }
     {
         if stands_too_deep(path, tree) {
             return Some(CoreError::TooDeep);
@@ -264,14 +264,14 @@ impl State {
 
     // Whether the entries are none that the listen with that tag can bring.
     fn is_bad_part(&self, tag: u64, entries: &Entries) -> bool
-        ensures { result ≡ is_bad_part self.now.world (tag, entries.now) }
+        ensures { result ≡ is_bad_part (world_of self.now) (tag, entries.now) }
     {
         self.is_outside_listen(tag, entries.as_slice()) || is_no_merge(entries)
     }
 
     // Why a push of several trees is refused.
     pub(crate) fn merge_refusal(&self, tag: u64, entries: &Entries) -> Option<CoreError>
-        ensures { result ≡ refusal self.now.world (Step.DataMerge tag entries.now) }
+        ensures { result ≡ refusal (world_of self.now) (Step.DataMerge tag entries.now) }
     {
         if some_stands_too_deep(entries) {
             return Some(CoreError::TooDeep);
@@ -284,7 +284,7 @@ impl State {
 
     // Whether one of the parts is bad.
     fn has_bad_part(&self, parts: &[Part]) -> bool
-        ensures { result ≡ list_any (is_bad_part self.now.world) parts.now }
+        ensures { result ≡ list_any (is_bad_part (world_of self.now)) parts.now }
     {
         parts
             .iter()
@@ -293,7 +293,7 @@ impl State {
 
     // Why a push of parts is refused.
     pub(crate) fn push_refusal(&self, parts: &Parts) -> Option<CoreError>
-        ensures { result ≡ refusal self.now.world (Step.Push parts.now) }
+        ensures { result ≡ refusal (world_of self.now) (Step.Push parts.now) }
     {
         if are_too_deep(parts.as_slice()) {
             return Some(CoreError::TooDeep);
@@ -308,7 +308,7 @@ impl State {
     // Whether a tree that is pushed at the path changes nothing: no listen with the tag is kept, or
     // it wants a window.
     pub(crate) fn data_is_stale(&self, tag: u64, path: &Path) -> bool
-        ensures { (tree : PathTree) → result ≡ is_stale self.now.world (Step.Data tag path.now tree) }
+        ensures { (tree : PathTree) → result ≡ is_stale (world_of self.now) (Step.Data tag path.now tree) }
     {
         match self.listen_of(tag) {
             Some(query) => self.brought.lacks_window(query, path),
@@ -318,7 +318,7 @@ impl State {
 
     // Whether a part changes nothing: no listen with the tag is kept, or each entry wants a window.
     fn is_idle(&self, tag: u64, entries: &Entries) -> bool
-        ensures { result ≡ is_idle self.now.world (tag, entries.now) }
+        ensures { result ≡ is_idle (world_of self.now) (tag, entries.now) }
     {
         match self.listen_of(tag) {
             Some(query) => lack_window(&self.brought, query, entries.as_slice()),
@@ -328,14 +328,14 @@ impl State {
 
     // Whether trees that are pushed together on one listen change nothing.
     pub(crate) fn merge_is_stale(&self, tag: u64, entries: &Entries) -> bool
-        ensures { result ≡ is_stale self.now.world (Step.DataMerge tag entries.now) }
+        ensures { result ≡ is_stale (world_of self.now) (Step.DataMerge tag entries.now) }
     {
         self.is_idle(tag, entries)
     }
 
     // Whether parts that are pushed together change nothing, one as the other.
     pub(crate) fn push_is_stale(&self, parts: &Parts) -> bool
-        ensures { result ≡ is_stale self.now.world (Step.Push parts.now) }
+        ensures { result ≡ is_stale (world_of self.now) (Step.Push parts.now) }
     {
         parts
             .as_slice()
@@ -344,12 +344,9 @@ impl State {
     }
 
     // Parts are pushed, each on the listen with its tag: they show together.
-    pub(crate) fn take_push(self, parts: Parts) -> Result<(State, Told), AllocError>
-        requires due { IsDue self.world (Step.Push parts) }
-        requires viewed { AreViewed self }
-        ensures made { IfOk result (λ made.
-            IsNext self.world (Step.Push parts) (made.0.world, made.1)) }
-        ensures views { IfOk result (λ made. HasViews self (Step.Push parts) made.0) }
+    pub(crate) fn take_push(&mut self, parts: Parts) -> Result<Told, AllocError>
+        requires { IsReady self.old (Step.Push parts) }
+        ensures { IfOk result (λ told. Makes self.old (Step.Push parts) self.new told) }
     {
         // For the prover: what such a step leaves, and what may be pushed.
         push_law();
@@ -358,42 +355,28 @@ impl State {
         brought_law();
         touch_law();
         let alloc = self.alloc();
-        let mut state = self;
-        put_parts(&mut state.brought, &state.cover, parts.as_slice())?;
+        put_parts(&mut self.brought, &self.cover, parts.as_slice())?;
         let entries = entries_pushed(alloc, parts)?;
         let mut notes = Vec::new(alloc);
-        let pending = state.requests.pending();
-        state
-            .listeners
-            .refresh(&entries, &state.brought, pending, &mut notes)?;
-        Ok((state, Told { given: None, notes }))
+        let pending = self.requests.pending();
+        self.listeners
+            .refresh(&entries, &self.brought, pending, &mut notes)?;
+        Ok(Told { given: None, notes })
     }
 
     // Several trees are pushed on one listen, as a part alone.
-    pub(crate) fn take_merge(self, tag: u64, entries: Entries) -> Result<(State, Told), AllocError>
-        requires due { IsDue self.world (Step.DataMerge tag entries) }
-        requires viewed { AreViewed self }
-        ensures made { IfOk result (λ made.
-            IsNext self.world (Step.DataMerge tag entries) (made.0.world, made.1)) }
-        ensures views { IfOk result (λ made.
-            HasViews self (Step.DataMerge tag entries) made.0) }
+    pub(crate) fn take_merge(&mut self, tag: u64, entries: Entries) -> Result<Told, AllocError>
+        requires { IsReady self.old (Step.DataMerge tag entries) }
+        ensures { IfOk result (λ told. Makes self.old (Step.DataMerge tag entries) self.new told) }
     {
         let parts = one_part(self.alloc(), tag, entries)?;
         self.take_push(parts)
     }
 
     // A tree is pushed at a path, as a merge of one.
-    pub(crate) fn take_data(
-        self,
-        tag: u64,
-        path: Path,
-        tree: Tree,
-    ) -> Result<(State, Told), AllocError>
-        requires due { IsDue self.world (Step.Data tag path tree) }
-        requires viewed { AreViewed self }
-        ensures made { IfOk result (λ made.
-            IsNext self.world (Step.Data tag path tree) (made.0.world, made.1)) }
-        ensures views { IfOk result (λ made. HasViews self (Step.Data tag path tree) made.0) }
+    pub(crate) fn take_data(&mut self, tag: u64, path: Path, tree: Tree) -> Result<Told, AllocError>
+        requires { IsReady self.old (Step.Data tag path tree) }
+        ensures { IfOk result (λ told. Makes self.old (Step.Data tag path tree) self.new told) }
     {
         let entries = one_entry(self.alloc(), path, tree)?;
         self.take_merge(tag, entries)

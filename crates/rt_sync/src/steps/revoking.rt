@@ -8,30 +8,35 @@ use crate::sending::send_change;
 use crate::state::State;
 use crate::steps::losing::lose_ended;
 use crate::told::Told;
-use rt_cover::{Cover, Delta, Numbers};
+use rt_cover::{Cover, Revoked};
 use rt_query::Query;
 use rt_world::{
     CoreError, Reason, covered_law, following_law, listened_law, sound_law, stay_law, tag_law,
 };
 use std::alloc::AllocError;
 
-// The listeners whose form is that of the listen with the tag are covered no more: that form, their
-// numbers, and what becomes of the other listens. Only memory can refuse.
-fn uncover_revoked(cover: &mut Cover, tag: u64) -> Result<(Query, Numbers, Delta), AllocError>
+// The form of the kept listen with that tag.
+fn form_kept(cover: &Cover, tag: u64) -> Result<Query, AllocError>
+    ensures { IfOk result (λ form.
+        option_map (λ k. k.form) (listen_at cover.now tag) ≡ Some form) }
+{
+    match cover.form_at(tag) {
+        Some(form) => form.copy(),
+        None => Err(AllocError),
+    }
+}
+
+// The listeners whose form is that of the listen with the tag are covered no more: their numbers, and
+// what becomes of the other listens. Only memory can refuse.
+fn uncover_revoked(cover: &mut Cover, tag: u64) -> Result<Revoked, AllocError>
     requires { revoke_fault cover.old tag ≡ None }
     ensures cover { OnOk result (cover.new ≡ revoked cover.old tag) }
-    ensures form { IfOk result (λ r.
-        option_map (λ k. k.form) (listen_at cover.old tag) ≡ Some r.0) }
-    ensures ended { IfOk result (λ r. r.1 ≡ ended_by cover.old tag) }
-    ensures delta { IfOk result (λ r. r.2
+    ensures ended { IfOk result (λ done. done.ended ≡ ended_by cover.old tag) }
+    ensures delta { IfOk result (λ done. done.delta
         ≡ without_tag tag (difference cover.old (revoked cover.old tag))) }
 {
-    let Some(form) = cover.form_at(tag) else {
-        return Err(AllocError);
-    };
-    let form = form.copy()?;
     match cover.revoke(tag) {
-        Ok(done) => Ok((form, done.ended, done.delta)),
+        Ok(done) => Ok(done),
         Err(_) => Err(AllocError),
     }
 }
@@ -40,13 +45,13 @@ impl State {
     ghost use Rattle.rt_world.specs.declared.step.Step.TheVariants as Step;
     ghost use Rattle.rt_world.specs.World.{Reason};
     ghost use Rattle.rt_world.specs.Refusals.{is_stale, needs_tag, refusal};
-    ghost use Rattle.rt_sync.specs.inside.Due.{IsDue, IsGood, IsNext};
-    ghost use Rattle.rt_sync.specs.inside.Viewed.{HasViews};
+    ghost use Rattle.rt_sync.specs.inside.StateView.{world_of};
+    ghost use Rattle.rt_sync.specs.inside.States.{HoldsWell, IsReady, Makes};
 
     // Whether the end of the listen would need a tag above the last one.
     fn lacks_tag_to_revoke(&self, tag: u64) -> bool
-        requires { IsGood self.now.world }
-        ensures { (why : Reason) → result ≡ needs_tag self.now.world (Step.Revoked tag why) }
+        requires { HoldsWell self.now }
+        ensures { (why : Reason) → result ≡ needs_tag (world_of self.now) (Step.Revoked tag why) }
     {
         // For the prover: when a step lacks a tag, and that no listen changes where no listener ends.
         tag_law();
@@ -56,8 +61,8 @@ impl State {
 
     // Why the listen can't end.
     pub(crate) fn revoke_refusal(&self, tag: u64) -> Option<CoreError>
-        requires { IsGood self.now.world }
-        ensures { (why : Reason) → result ≡ refusal self.now.world (Step.Revoked tag why) }
+        requires { HoldsWell self.now }
+        ensures { (why : Reason) → result ≡ refusal (world_of self.now) (Step.Revoked tag why) }
     {
         if !self.is_connected {
             return Some(CoreError::NotConnected);
@@ -70,7 +75,7 @@ impl State {
 
     // Whether no listen with that tag is kept.
     pub(crate) fn revoke_is_stale(&self, tag: u64) -> bool
-        ensures { (why : Reason) → result ≡ is_stale self.now.world (Step.Revoked tag why) }
+        ensures { (why : Reason) → result ≡ is_stale (world_of self.now) (Step.Revoked tag why) }
     {
         match self.listen_of(tag) {
             Some(_) => false,
@@ -80,10 +85,9 @@ impl State {
 
     // The server ends a listen: the listeners that it is the form of end, and their seats are told. Then
     // those are told whose views change since they are moved.
-    pub(crate) fn revoke(self, tag: u64, why: Reason) -> Result<(State, Told), AllocError>
-        requires { IsDue self.world (Step.Revoked tag why) }
-        ensures made { IfOk result (λ made. IsNext self.world (Step.Revoked tag why) (made.0.world, made.1)) }
-        ensures views { IfOk result (λ made. HasViews self (Step.Revoked tag why) made.0) }
+    pub(crate) fn revoke(&mut self, tag: u64, why: Reason) -> Result<Told, AllocError>
+        requires { IsReady self.old (Step.Revoked tag why) }
+        ensures { IfOk result (λ told. Makes self.old (Step.Revoked tag why) self.new told) }
     {
         // For the prover: what such a step leaves, and that the cover takes it.
         listened_law();
@@ -91,25 +95,24 @@ impl State {
         following_law();
         sound_law();
         let alloc = self.alloc();
-        let mut state = self;
-        let (form, numbers, delta) = uncover_revoked(&mut state.cover, tag)?;
+        let form = form_kept(&self.cover, tag)?;
+        let done = uncover_revoked(&mut self.cover, tag)?;
         let mut ended = Vec::new(alloc);
         ended.push(form.copy()?)?;
         let moved = lose_ended(
-            &mut state.brought,
-            &state.listeners,
-            &state.cover,
-            numbers.as_slice(),
+            &mut self.brought,
+            &self.listeners,
+            &self.cover,
+            done.ended.as_slice(),
             ended,
-            &delta,
+            &done.delta,
         )?;
         let mut notes = Vec::new(alloc);
-        state.listeners.cancel(&form, &why, &mut notes)?;
-        let pending = state.requests.pending();
-        state
-            .listeners
-            .renew(&moved, &state.brought, pending, &mut notes)?;
-        send_change(&mut state.outgoing, state.is_connected, delta)?;
-        Ok((state, Told { given: None, notes }))
+        self.listeners.cancel(&form, &why, &mut notes)?;
+        let pending = self.requests.pending();
+        self.listeners
+            .renew(&moved, &self.brought, pending, &mut notes)?;
+        send_change(&mut self.outgoing, self.is_connected, done.delta)?;
+        Ok(Told { given: None, notes })
     }
 }

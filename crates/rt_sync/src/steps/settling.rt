@@ -2,7 +2,6 @@
 ghost use Rattle.std.specs.Prelude.{◌≡◌, ◌++◌, [], ℕ, IfOk, OnOk};
 ghost use Rattle.std.specs.Option.{option_and_then, option_map, option_map_or, option_to_list};
 ghost use Rattle.rt_world.specs.declared.report.Body.TheVariants as Body;
-ghost use Rattle.rt_world.specs.Touched.{entries_settled};
 
 use crate::state::State;
 use crate::told::Told;
@@ -50,32 +49,31 @@ impl State {
     ghost use Rattle.rt_world.specs.declared.step.Step.TheVariants as Step;
     ghost use Rattle.rt_world.specs.World.{Reason};
     ghost use Rattle.rt_world.specs.Refusals.{is_stale, refusal};
-    ghost use Rattle.rt_sync.specs.inside.Due.{IsDue, IsNext, settling};
-    ghost use Rattle.rt_sync.specs.inside.Viewed.{AreViewed, RefreshesViews};
+    ghost use Rattle.rt_sync.specs.inside.Due.{settling};
+    ghost use Rattle.rt_sync.specs.inside.StateView.{world_of};
+    ghost use Rattle.rt_sync.specs.inside.States.{IsReady, Makes};
 
     // Why nothing can be settled.
     pub(crate) fn settle_refusal(&self) -> Option<CoreError>
-        ensures accepted { (id : ℕ) → result ≡ refusal self.now.world (Step.Accepted id) }
-        ensures refused { (id : ℕ) (why : Reason) → result ≡ refusal self.now.world (Step.Refused id why) }
+        ensures accepted { (id : ℕ) → result ≡ refusal (world_of self.now) (Step.Accepted id) }
+        ensures refused { (id : ℕ) (why : Reason) → result ≡ refusal (world_of self.now) (Step.Refused id why) }
     {
         self.offline_refusal()
     }
 
     // Whether no unsettled request has the number.
     pub(crate) fn settle_is_stale(&self, id: u64) -> bool
-        ensures accepted { result ≡ is_stale self.now.world (Step.Accepted id) }
-        ensures refused { (why : Reason) → result ≡ is_stale self.now.world (Step.Refused id why) }
+        ensures accepted { result ≡ is_stale (world_of self.now) (Step.Accepted id) }
+        ensures refused { (why : Reason) → result ≡ is_stale (world_of self.now) (Step.Refused id why) }
     {
         !self.requests.is_unsettled(id)
     }
 
     // A request is accepted, or refused for a reason: what it wrote is pending no more, and its seat
     // is told first.
-    pub(crate) fn settle(self, id: u64, why: Option<Reason>) -> Result<(State, Told), AllocError>
-        requires due { IsDue self.world (settling id why) }
-        requires viewed { AreViewed self }
-        ensures made { IfOk result (λ made. IsNext self.world (settling id why) (made.0.world, made.1)) }
-        ensures views { IfOk result (λ made. RefreshesViews self (entries_settled self.world id) made.0) }
+    pub(crate) fn settle(&mut self, id: u64, why: Option<Reason>) -> Result<Told, AllocError>
+        requires { IsReady self.old (settling id why) }
+        ensures { IfOk result (λ told. Makes self.old (settling id why) self.new told) }
     {
         // For the prover: what such a step leaves.
         settled_law();
@@ -84,16 +82,14 @@ impl State {
         brought_law();
         touch_law();
         let alloc = self.alloc();
-        let mut state = self;
-        let taken = state.requests.settle(id)?;
+        let taken = self.requests.settle(id)?;
         let settled = left_of(alloc, taken);
         let mut notes = Vec::new(alloc);
         tell_settled(&mut notes, settled.seat, id, why)?;
-        let pending = state.requests.pending();
+        let pending = self.requests.pending();
         let entries = settled.entries.as_slice();
-        state
-            .listeners
-            .refresh(entries, &state.brought, pending, &mut notes)?;
-        Ok((state, Told { given: None, notes }))
+        self.listeners
+            .refresh(entries, &self.brought, pending, &mut notes)?;
+        Ok(Told { given: None, notes })
     }
 }

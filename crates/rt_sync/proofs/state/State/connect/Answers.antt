@@ -1,23 +1,21 @@
-use Rattle.std.proofs.Common.{◌≡◌, ◌∷◌, ◌++◌, map, refl, rules, ap}
+use Rattle.std.proofs.Common.{◌≡◌, ◌∷◌, ◌++◌, map, refl, rules}
 use Rattle.rt_cover.specs.State.{shown}
 use Rattle.rt_wire.specs.declared.client.ClientMessage.{ClientMessage}
 use Rattle.rt_wire.specs.declared.limits.TheConstants.{VERSION}
-use Rattle.rt_world.specs.declared.step.Step.{Step}
 use Rattle.rt_world.specs.Messages.{request_message}
-use Rattle.rt_sync.specs.Core.{Held}
+use Rattle.rt_sync.specs.declared.state.State.{State}
 use Rattle.rt_sync.specs.inside.Parts.{listens_shown}
+use Rattle.rt_sync.specs.inside.StateView.{held_of}
 use Rattle.rt_sync.proofs.Counted.{same_refreshed}
-use Rattle.rt_sync.proofs.NextWorlds.{along, connect_made}
+use Rattle.rt_sync.proofs.NextWorlds.{connect_made}
 use Rattle.rt_sync.proofs.state.State.connect.Goals as goal
 
-pub returns-clause-made : goal.returns-clause-made
-returns-clause-made c =
-    let state = c.state.inside in
+pub returns : goal.returns
+returns c =
+    let state : State = c.args.self.now in
     let sent : c.send_requests.new.outgoing.items ≡ ClientMessage.Hello VERSION ∷ (listens_shown (shown state.cover) ++ map request_message state.requests) = search rules in
-    along state.limits state.listeners.listeners state.requests state.brought state.cover state.is_connected state.outgoing.items state.given_listeners state.given_requests
-    (c.args.self).world (ap (λ (h : Held). h.world) c.state.view_is) Step.Connected _ (λ d. connect_made state.limits state.listeners.listeners state.requests state.brought state.cover state.is_connected state.outgoing.items state.given_listeners state.given_requests c.connection_law.ensures.connected d c.send_requests.new.outgoing.items sent _ refl c.new-notes.ensures.items) c.requires.due
-
-pub returns-clause-views : goal.returns-clause-views
-returns-clause-views c =
-    same_refreshed c.args.self _ c.requires.viewed
-    (record { listeners = ap (λ (h : Held). (h.world).listeners) c.state.view_is; views = ap (λ (h : Held). h.views) c.state.view_is; counts = ap (λ (h : Held). h.counts) c.state.view_is })
+    record {
+      tied = record { listened = c.requires.tied.listened; last_tag = c.requires.tied.last_tag };
+      next = connect_made state c.connection_law.ensures.connected c.requires.due c.send_requests.new.outgoing.items sent _ refl c.new-notes.ensures.items;
+      views = same_refreshed (held_of state) _ c.requires.viewed (record { listeners = refl; views = refl; counts = refl });
+    }

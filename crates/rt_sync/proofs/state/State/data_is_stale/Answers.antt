@@ -7,7 +7,7 @@ use Rattle.rt_cache.specs.Brought.{is_without_window}
 use Rattle.rt_world.specs.declared.step.Step.{Step}
 use Rattle.rt_world.specs.World.{World, listen_of}
 use Rattle.rt_world.specs.Refusals.{is_stale}
-use Rattle.rt_sync.specs.Core.{Held}
+use Rattle.rt_sync.specs.inside.StateView.{world_of}
 use Rattle.rt_sync.proofs.state.State.data_is_stale.Goals as goal
 
 and_true : (b : Bool) → (b && true) ≡ b
@@ -26,9 +26,8 @@ one_alone w tag path tree = at (listen_of w tag)
 
 pub returns-in-Some : goal.returns-in-Some
 returns-in-Some c = λ tree.
-    let w : World = (c.args.self.now).world in
+    let w : World = world_of c.args.self.now in
     let q : Query = c.in-Some.query.now in
     c.lacks_window.ensures tree
-    ∙ ap (λ (v : World). is_without_window v.brought q (c.args.path.now, tree)) (ap (λ (h : Held). h.world) c.self.view_is)
     ∙ ap (λ (o : Option Query). option_map_or (λ x. is_without_window w.brought x (c.args.path.now, tree)) o true) (sym (ap option_copied c.in-Some.is) ∙ c.listen_of.ensures)
     ∙ sym (one_alone w c.args.tag c.args.path.now tree)

@@ -9,5 +9,5 @@ pub returns-in-Some : goal.returns-in-Some
 returns-in-Some c =
     let q : Query = c.in-Some.query.now in
     c.lack_window.ensures
-    ∙ (λ i. list_all (is_without_window ((c.self.view_is i).world).brought q) (c.as_slice.ensures i))
-    ∙ ap (λ (o : Option Query). option_map_or (λ x. list_all (is_without_window ((c.args.self.now).world).brought x) c.args.entries.now) o true) (sym (ap option_copied c.in-Some.is) ∙ c.listen_of.ensures)
+    ∙ ap (list_all (is_without_window c.args.self.now.brought q)) c.as_slice.ensures
+    ∙ ap (λ (o : Option Query). option_map_or (λ x. list_all (is_without_window c.args.self.now.brought x) c.args.entries.now) o true) (sym (ap option_copied c.in-Some.is) ∙ c.listen_of.ensures)

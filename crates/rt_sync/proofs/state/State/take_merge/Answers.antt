@@ -1,7 +1,7 @@
 use Rattle.std.proofs.Common.{◌∷◌, [], IfOk, Result, Ok, Err, sym, subst}
 use Rattle.rt_world.specs.declared.step.Step.{Step}
-use Rattle.rt_sync.specs.inside.Due.{IsDue, IsNext}
-use Rattle.rt_sync.specs.inside.Viewed.{HasViews}
+use Rattle.rt_sync.specs.declared.state.State.{State}
+use Rattle.rt_sync.specs.inside.States.{IsReady, Makes}
 use Rattle.rt_sync.proofs.state.State.take_merge.Goals as goal
 
 -- what is so of each good result
@@ -9,17 +9,19 @@ of_ok : {X E : Type 0} (r : Result X E) (P Q : X → Type 0) → ((x : X) → P 
 of_ok (Ok x) P Q f p = f x p
 of_ok (Err e) P Q f p = p
 
-pub take_push-requires-clause-due : goal.take_push-requires-clause-due
-take_push-requires-clause-due c =
-    subst (λ ps. IsDue (c.args.self).world (Step.Push ps)) (sym c.in_ok-parts.ensures)
-    (record { good = c.requires.due.good; not_refused = c.requires.due.not_refused; not_stale = c.requires.due.not_stale })
+pub take_push-requires : goal.take_push-requires
+take_push-requires c =
+    subst (λ ps. IsReady c.args.self.now (Step.Push ps)) (sym c.in_ok-parts.ensures)
+    (record {
+      tied = c.requires.tied;
+      viewed = c.requires.viewed;
+      due = record { good = c.requires.due.good; not_refused = c.requires.due.not_refused; not_stale = c.requires.due.not_stale };
+    })
 
-pub returns-clause-made : goal.returns-clause-made
-returns-clause-made c =
-    of_ok c.take_push.result (λ made. IsNext (c.args.self).world (Step.Push ((c.args.tag, c.args.entries) ∷ [])) (made.0.world, made.1)) (λ made. IsNext (c.args.self).world (Step.DataMerge c.args.tag c.args.entries) (made.0.world, made.1))
-    (λ made n. record { world = n.world; given = n.given; notes = n.notes })
-    (subst (λ ps. IfOk c.take_push.result (λ made. IsNext (c.args.self).world (Step.Push ps) (made.0.world, made.1))) c.in_ok-parts.ensures c.take_push.ensures.made)
-
-pub returns-clause-views : goal.returns-clause-views
-returns-clause-views c =
-    subst (λ ps. IfOk c.take_push.result (λ made. HasViews c.args.self (Step.Push ps) made.0)) c.in_ok-parts.ensures c.take_push.ensures.views
+pub returns : goal.returns
+returns c =
+    let old : State = c.args.self.now in
+    let new : State = c.take_push.new.self in
+    of_ok c.take_push.result (λ told. Makes old (Step.Push ((c.args.tag, c.args.entries) ∷ [])) new told) (λ told. Makes old (Step.DataMerge c.args.tag c.args.entries) new told)
+    (λ told m. record { tied = m.tied; next = record { world = m.next.world; given = m.next.given; notes = m.next.notes }; views = m.views })
+    (subst (λ ps. IfOk c.take_push.result (λ told. Makes old (Step.Push ps) new told)) c.in_ok-parts.ensures c.take_push.ensures)
