@@ -51,7 +51,7 @@
 ///     seat: &mut Seat,
 ///     query: Query,
 /// ) -> Result<u64, ClientError> {
-///     linked.listen(rt, seat, query)
+///     linked.ask(rt, seat, Call::listen(query))
 /// }
 ///
 /// fn write_linked(
@@ -61,7 +61,7 @@
 ///     path: Path,
 ///     tree: Tree,
 /// ) -> Result<u64, ClientError> {
-///     linked.set(rt, seat, path, tree)
+///     linked.ask(rt, seat, Call::set(path, tree))
 /// }
 ///
 /// fn write_and_wait<R: Wait + Clock>(
@@ -71,7 +71,7 @@
 ///     path: Path,
 ///     tree: Tree,
 /// ) -> Result<Option<Answer>, ClientError> {
-///     let request = linked.set(rt, seat, path, tree)?;
+///     let request = linked.ask(rt, seat, Call::set(path, tree))?;
 ///     linked.answer(rt, seat, request, Duration::from_secs(10))
 /// }
 ///

@@ -123,6 +123,12 @@ pub use rt_world::Asked;
 ///     peer.message(connection, message)
 /// }
 ///
+/// fn sizes(alloc: Global, peer: &Peer, query: &Query) -> Result<[usize; 3], AllocError> {
+///     let no_entries = Vec::new(alloc);
+///     let with_none = peer.text_len_with(no_entries.as_slice())?;
+///     Ok([peer.text_len(), with_none, peer.seen_len(query)?])
+/// }
+///
 /// fn end_turn(peer: &mut Peer, connection: u64) -> Result<(Vec<Sent>, bool), PeerError> {
 ///     peer.end_some(connection, 100)
 /// }

@@ -100,7 +100,7 @@ pub use rt_tree::LeafRef;
 /// }
 ///
 /// fn is_marked(tree: &Tree, key: &Key) -> bool {
-///     tree.child(key).is_some()
+///     tree.child_at(key).is_some()
 /// }
 ///
 /// fn note(alloc: Global, text: Leaf, age: Leaf) -> Result<Tree, TreeError> {
@@ -113,7 +113,7 @@ pub use rt_tree::LeafRef;
 ///     let age = tree.number_at("age").unwrap_or(0);
 ///     let is_read = tree.truth_at("read").is_some();
 ///     let has_name = tree.leaf_at("/from/name").is_some() || tree.part_at("from").is_some();
-///     let has_text = tree.child_named("text").is_some();
+///     let has_text = tree.child("text").is_some();
 ///     println!(rt; "{text}, {age}: {is_read} {has_name} {has_text}")?;
 ///     Ok(())
 /// }

@@ -5,6 +5,7 @@ use Rattle.std.specs.List.{fold}
 use Rattle.std.specs.Option.{option_or}
 use Rattle.rt_wire.specs.declared.reason.Reason.{Reason}
 use Rattle.rt_world.specs.declared.call.Call.{Call}
+use Rattle.rt_world.specs.declared.call.Call.TheVariants as call
 use Rattle.rt_mail.specs.declared.item.Item.{Item}
 use Rattle.rt_mail.specs.declared.item.Item.TheVariants as item
 use Rattle.rt_mail.specs.Mailbox.{Known, known_of}
@@ -22,6 +23,24 @@ use Rattle.rt_link.specs.declared.hearing.Answered.{Answered}
 abbrev pub settled_by : Option Reason → Answer
 settled_by None = answer.Done
 settled_by (Some why) = answer.Refused why
+
+-- the listener that a call ends; 0 of another call
+abbrev pub ended_by : Call → ℕ
+ended_by (call.Unlisten listener) = listener
+ended_by (call.Listen query) = 0
+ended_by (call.Write action) = 0
+ended_by (call.OnDisconnect ending) = 0
+
+-- the number that a call is given, or the other one where it is given none
+abbrev pub number_in : Option ℕ → ℕ → ℕ
+number_in (Some n) ended = n
+number_in None ended = ended
+
+-- the seat's call is made, and answered by the number of what is new, or of the listener that it ends
+pub record IsAsked (seat : Seated) (c : Call) (n : ℕ) (left : Seated) : Type 0 where
+  pub done : Done
+  pub made : IsDone seat c done left
+  pub number : n ≡ number_in done.given (ended_by c)
 
 -- an item says of a request how it is settled, or nothing
 abbrev pub answer_in : Item → ℕ → Option Answer

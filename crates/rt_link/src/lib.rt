@@ -4,7 +4,7 @@
 //! ```text
 //! let (client, mut seats) = Client::open(alloc, 1, &[64, 64], Limits::full())?;
 //! let (mut link, linked) = Link::open(rt, alloc, client)?;
-//! linked.set(rt, &mut seats[0], path, tree)?;              // in any thread: calls, and wakes the link
+//! linked.ask(rt, &mut seats[0], Call::set(path, tree))?;   // in any thread: calls, and wakes the link
 //! linked.client.wait(rt, &mut seats[0])?;                  // sleeps until the seat is told something
 //! linked.answer(rt, &mut seats[0], request, most)?;        // waits until the request is answered
 //! linked.keep_while(rt, alloc, &mut link, address, ends, work)     // connects, until the work is done

@@ -1,19 +1,13 @@
 // A client with what wakes its link.
 ghost use Rattle.std.specs.Prelude.{◌≡◌, IfOk, IfErr, OnOk};
-ghost use Rattle.rt_tree.specs.PathTree.{null};
-ghost use Rattle.rt_wire.specs.declared.request.Action.TheVariants.{Put, Merge};
-ghost use Rattle.rt_wire.specs.declared.request.Ending.TheVariants.{Run, Cancel};
-ghost use Rattle.rt_world.specs.declared.call.Call.TheVariants as call;
 ghost use Rattle.rt_client.specs.Calls.{handed_back};
-ghost use Rattle.rt_client.specs.Waiting.{IsNumbered, IsMade, IsDone, IsUnmade, IsClosed, IsUnclosed};
-ghost use Rattle.rt_link.specs.Answering.{Answers, RefusesAnswering};
+ghost use Rattle.rt_client.specs.Waiting.{IsDone, IsUnmade, IsClosed, IsUnclosed};
+ghost use Rattle.rt_link.specs.Answering.{Answers, IsAsked, RefusesAnswering, ended_by, number_in};
 
 use crate::answering::{Answer, find_answer};
 use crate::waiting::Bound;
 use mio::Waker;
-use rt_client::{Action, Call, Client, ClientError, Done, Seat, Uncalled, Unclosed};
-use rt_query::Query;
-use rt_tree::{Path, Tree};
+use rt_client::{Call, Client, ClientError, Done, Seat, Uncalled, Unclosed};
 use std::alloc::{AllocError, Global};
 use std::marker::Model;
 use std::sync::{Arc, Wait};
@@ -63,8 +57,28 @@ impl Bell {
     }
 }
 
+// The listener that a call ends; 0 of another call.
+fn ended_by(call: &Call) -> u64
+    ensures { result ≡ ended_by call.now }
+{
+    match call {
+        Call::Unlisten { listener } => *listener,
+        Call::Listen { .. } | Call::Write { .. } | Call::OnDisconnect { .. } => 0,
+    }
+}
+
+// The number that a call is given, or the other one where it is given none.
+fn number_in(given: Option<u64>, ended: u64) -> u64
+    ensures { result ≡ number_in given ended }
+{
+    match given {
+        Some(number) => number,
+        None => ended,
+    }
+}
+
 /// A client whose messages a [`Link`](crate::Link) carries. Threads share it by reference. Each of its calls
-/// makes the client's call of that name, which wakes whoever waits for the client, and then wakes the link.
+/// makes a call of the client, which wakes whoever waits for the client, and then wakes the link.
 /// Whoever makes calls on the client itself, or locks it, wakes the link by [`Linked::ring`].
 pub struct Linked {
     pub client: Client,
@@ -107,101 +121,17 @@ impl Linked {
         self.client.shared.lock(rt).is_stopped()
     }
 
-    /// Registers a listener, which the seat is told of from then on.
-    pub fn listen<R: Wait>(&self, rt: &R, seat: &mut Seat, query: Query) -> Result<u64, ClientError>
-        ensures made { IfOk result (λ n. IsNumbered seat.old (call.Listen query) n seat.new) }
-        ensures refused { IfErr result (λ e. IsUnmade seat.old (call.Listen query) e seat.new) }
+    /// Makes a seat's call. Answers the number of the new listener or request, or that of the listener that
+    /// it ends.
+    pub fn ask<R: Wait>(&self, rt: &R, seat: &mut Seat, call: Call) -> Result<u64, ClientError>
+        ensures made { IfOk result (λ n. IsAsked seat.old call n seat.new) }
+        ensures refused { IfErr result (λ e. IsUnmade seat.old call e seat.new) }
     {
-        let answer = self.client.listen(rt, seat, query);
-        self.ring();
-        answer
-    }
-
-    /// Ends a listener of the seat.
-    pub fn unlisten<R: Wait>(
-        &self,
-        rt: &R,
-        seat: &mut Seat,
-        listener: u64,
-    ) -> Result<(), ClientError>
-        ensures made { OnOk result (IsMade seat.old (call.Unlisten listener) seat.new) }
-        ensures refused { IfErr result (λ e. IsUnmade seat.old (call.Unlisten listener) e seat.new) }
-    {
-        let answer = self.client.unlisten(rt, seat, listener);
-        self.ring();
-        answer
-    }
-
-    /// Sets a tree at a path; null removes.
-    pub fn set<R: Wait>(
-        &self,
-        rt: &R,
-        seat: &mut Seat,
-        path: Path,
-        tree: Tree,
-    ) -> Result<u64, ClientError>
-        ensures made { IfOk result (λ n. IsNumbered seat.old (call.Write (Put path tree)) n seat.new) }
-        ensures refused { IfErr result (λ e. IsUnmade seat.old (call.Write (Put path tree)) e seat.new) }
-    {
-        let answer = self.client.set(rt, seat, path, tree);
-        self.ring();
-        answer
-    }
-
-    /// Sets several trees, each at its path, in one write.
-    pub fn update<R: Wait>(
-        &self,
-        rt: &R,
-        seat: &mut Seat,
-        entries: Vec<(Path, Tree)>,
-    ) -> Result<u64, ClientError>
-        ensures made { IfOk result (λ n. IsNumbered seat.old (call.Write (Merge entries.items)) n seat.new) }
-        ensures refused { IfErr result (λ e.
-            IsUnmade seat.old (call.Write (Merge entries.items)) e seat.new) }
-    {
-        let answer = self.client.update(rt, seat, entries);
-        self.ring();
-        answer
-    }
-
-    /// Removes what is at a path: sets null there.
-    pub fn remove<R: Wait>(&self, rt: &R, seat: &mut Seat, path: Path) -> Result<u64, ClientError>
-        ensures made { IfOk result (λ n. IsNumbered seat.old (call.Write (Put path null)) n seat.new) }
-        ensures refused { IfErr result (λ e. IsUnmade seat.old (call.Write (Put path null)) e seat.new) }
-    {
-        let answer = self.client.remove(rt, seat, path);
-        self.ring();
-        answer
-    }
-
-    /// Asks the server for a write, which it makes when the connection ends.
-    pub fn on_disconnect<R: Wait>(
-        &self,
-        rt: &R,
-        seat: &mut Seat,
-        action: Action,
-    ) -> Result<u64, ClientError>
-        ensures made { IfOk result (λ n. IsNumbered seat.old (call.OnDisconnect (Run action)) n seat.new) }
-        ensures refused { IfErr result (λ e. IsUnmade seat.old (call.OnDisconnect (Run action)) e seat.new) }
-    {
-        let answer = self.client.on_disconnect(rt, seat, action);
-        self.ring();
-        answer
-    }
-
-    /// Drops what was to be written at and below a path when the connection ends.
-    pub fn cancel_disconnect<R: Wait>(
-        &self,
-        rt: &R,
-        seat: &mut Seat,
-        path: Path,
-    ) -> Result<u64, ClientError>
-        ensures made { IfOk result (λ n. IsNumbered seat.old (call.OnDisconnect (Cancel path)) n seat.new) }
-        ensures refused { IfErr result (λ e. IsUnmade seat.old (call.OnDisconnect (Cancel path)) e seat.new) }
-    {
-        let answer = self.client.cancel_disconnect(rt, seat, path);
-        self.ring();
-        answer
+        let ended = ended_by(&call);
+        match self.try_call(rt, seat, call) {
+            Ok(done) => Ok(number_in(done.given, ended)),
+            Err(refused) => Err(refused.why),
+        }
     }
 
     /// Makes a seat's call, and hands it back where the mailbox is full.

@@ -138,7 +138,7 @@ impl Linked {
     /// # Errors
     ///
     /// The clock, the randomness or the push ids refuse, the path has 32 keys already, or the client refuses
-    /// the write as at [`Linked::set`].
+    /// the write as at [`Linked::ask`].
     pub fn push<R: Wait + Clock + RandomSource>(
         &self,
         rt: &R,
@@ -155,7 +155,9 @@ impl Linked {
             Ok(path) => path,
             Err(why) => return Err(Unpushed::Path(why)),
         };
-        match self.set(rt, seat, path, tree) {
+        let answer = self.client.set(rt, seat, path, tree);
+        self.ring();
+        match answer {
             Ok(request) => Ok(Pushed { key, request }),
             Err(why) => Err(Unpushed::Client(why)),
         }
