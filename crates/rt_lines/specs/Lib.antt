@@ -2,8 +2,8 @@
 -- In reading order: Words (numbers of a line, and its name), Calls (the calls of a query), Forms (which
 -- JSON data have the form of a line), Reading (paths, trees and entries, and what refuses them), Drafts
 -- (the query that calls make), Lines (what a line asks for), Refusals (layers, numbers and names of
--- refusals), Printing (what is printed), Bad (what is wrong with a line that has none of the forms), Orders
--- (what a line asks of a client that is connected).
+-- refusals), Printing (what is printed), Bad (what is told of a line), Orders
+-- (what a line asks of a client that is connected), Typing (what a line asks of one that is watched).
 -- laws/ has lines and texts that the prover computes.
 pub mod Bad
 pub mod Calls
@@ -16,4 +16,5 @@ pub mod Orders
 pub mod Printing
 pub mod Reading
 pub mod Refusals
+pub mod Typing
 pub mod Words

@@ -1,5 +1,6 @@
 -- What a line asks for: its form is looked at first, then its words in their order.
-use Rattle.std.specs.Prelude.{ℕ, List, if◌then◌else◌, Option, None, Result, Ok, Err}
+use Rattle.std.specs.Prelude.{ℕ, nat_eq, Bool, List, [], ◌∷◌, drop, if◌then◌else◌, Option, None, Result, Ok, Err}
+use Rattle.std.specs.List.{starts_with}
 use Rattle.std.specs.Option.{option_map_or}
 use Rattle.std.specs.Str.{is_utf8}
 use Rattle.serde_json.specs.Data.{Data as Json}
@@ -63,9 +64,17 @@ line_in (form.Push now random) = Ok (line.Push now random)
 abbrev pub line_of_data : Json → Result Line LineError
 line_of_data d = option_map_or line_in (form_in d) (Err Bad)
 
--- the JSON value of bytes
+-- whether bytes begin with a byte order mark
+abbrev pub has_mark : List ℕ → Bool
+has_mark bytes = starts_with nat_eq bytes (239 ∷ 187 ∷ 191 ∷ [])
+
+-- bytes without that mark
+abbrev pub unmarked : List ℕ → List ℕ
+unmarked bytes = if has_mark bytes then drop 3 bytes else bytes
+
+-- the JSON value of bytes, perhaps behind a byte order mark
 abbrev pub data_of_bytes : List ℕ → Option Json
-data_of_bytes bytes = if is_utf8 bytes then read bytes else None
+data_of_bytes bytes = if is_utf8 (unmarked bytes) then read (unmarked bytes) else None
 
 -- what bytes ask for: they are a text of UTF-8 that is JSON
 abbrev pub line_of_bytes : List ℕ → Result Line LineError

@@ -7,7 +7,7 @@
 //! }
 //! ```
 //!
-//! What a line does to a core is `rt_script`'s, and what it asks of a client `rt_drive`'s.
+//! What a line does to a core is `rt_script`'s, and what it asks of a client `rt_connect`'s.
 #![tactic(auto)]
 
 mod bad;
@@ -22,9 +22,11 @@ mod order;
 mod reading;
 mod report;
 mod show;
+mod taken;
+mod typed;
 mod word;
 
-pub use bad::{LineFault, fault_of, say_bad_line, write_fault};
+pub use bad::{LinesTaken, say_line};
 pub use change::write_batch;
 pub use error::{LineError, Refusal};
 pub use line::Line;
@@ -34,3 +36,5 @@ pub use report::{
     write_report, write_settled,
 };
 pub use show::{write_cover, write_messages, write_view};
+pub use taken::{CONNECT_LINES, SCRIPT_LINES, WATCH_LINES};
+pub use typed::Typed;

@@ -1,7 +1,8 @@
 // What a line asks for.
-ghost use Rattle.std.specs.Prelude.{◌≡◌, ◌⊎◌, IfOk, IfErr, Ok, Err, Some, None};
+ghost use Rattle.std.specs.Prelude.{◌≡◌, ◌⊎◌, ◌≤◌, length, true, IfOk, IfErr, Ok, Err, Some, None};
 ghost use Rattle.serde_json.specs.View.{members_view, view as data_of};
-ghost use Rattle.rt_lines.specs.Lines.{data_of_bytes, line_in, line_of_bytes, line_of_data};
+ghost use Rattle.rt_lines.specs.Lines.{data_of_bytes, has_mark, line_in, line_of_bytes, line_of_data};
+ghost use Rattle.rt_lines.specs.Lines.{unmarked};
 ghost use Rattle.rt_lines.specs.Forms as form;
 ghost use Rattle.rt_lines.specs.inside.FormView.{as_calls, as_form, as_parts, as_written};
 
@@ -187,13 +188,31 @@ fn line_of_value(alloc: Global, value: &Value) -> Result<Line, LineError>
     line_of(alloc, form_of(alloc, value)?)
 }
 
-/// The JSON value of bytes.
+// The mark of a text's byte order, as UTF-8 has it.
+const MARK: [u8; 3] = [0xEF, 0xBB, 0xBF];
+
+/// Whether bytes begin with a byte order mark.
+pub(crate) fn has_mark(bytes: &[u8]) -> bool
+    ensures mark { result ≡ has_mark bytes.now }
+    ensures room { result ≡ true → 3 ≤ length bytes.now }
+{
+    bytes.starts_with(&MARK)
+}
+
+// Bytes without that mark.
+fn unmarked(bytes: &[u8]) -> &[u8]
+    ensures { result.now ≡ unmarked bytes.now }
+{
+    if has_mark(bytes) { &bytes[3..] } else { bytes }
+}
+
+/// The JSON value of bytes, perhaps behind a byte order mark.
 pub(crate) fn value_of(alloc: Global, bytes: &[u8]) -> Result<Value, LineError>
     ensures ok { IfOk result (λ value. data_of_bytes bytes.now ≡ Some (data_of value)) }
     ensures err { IfErr result (λ e. (e ≡ LineError.Bad) × (data_of_bytes bytes.now ≡ None)
         ⊎ (e ≡ LineError.NoMemory)) }
 {
-    match Value::from_slice(alloc, bytes) {
+    match Value::from_slice(alloc, unmarked(bytes)) {
         Ok(value) => Ok(value),
         Err(error) if error.is_memory() => Err(LineError::NoMemory),
         Err(_) => Err(LineError::Bad),

@@ -133,7 +133,7 @@ fn order_of(alloc: Global, form: Form<'_>) -> Result<Order, LineError>
 }
 
 // The order of that name.
-fn order_of_name(alloc: Global, name: &str, words: &[Value]) -> Result<Order, LineError>
+pub(crate) fn order_of_name(alloc: Global, name: &str, words: &[Value]) -> Result<Order, LineError>
     ensures ok { IfOk result (λ order. order_named name.now (views words.now) ≡ Ok order) }
     ensures fault { IfErr result (λ e. (order_named name.now (views words.now) ≡ Err e)
         ⊎ (e ≡ LineError.NoMemory)) }

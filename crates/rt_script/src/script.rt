@@ -11,7 +11,7 @@ ghost use Rattle.rt_script.specs.inside.Pieces.{Begins, PrintsFirst, Runs, so_fa
 use crate::doing::do_bytes;
 use crate::state::State;
 use rt_input::{ConsoleError, Drain, LineReader, Log, Silent, Source, write_printed};
-use rt_lines::say_bad_line;
+use rt_lines::{SCRIPT_LINES, say_line};
 use rt_world::Limits;
 use std::alloc::{AllocError, Global};
 
@@ -54,8 +54,8 @@ impl Script {
         }
     }
 
-    // Does a line, and tells what is wrong with a bad one.
-    fn do_line<L: Log>(&mut self, bytes: &[u8], log: &mut L) -> Result<(), AllocError>
+    // Does a line, and answers whether it is good.
+    fn count_line(&mut self, bytes: &[u8]) -> Result<bool, AllocError>
         ensures done { OnOk result (so_far [] self.new ≡ after_line bytes.now (so_far [] self.old)) }
         ensures stopped { OnErr result (PrintsFirst bytes.now (so_far [] self.old) self.new) }
     {
@@ -68,10 +68,19 @@ impl Script {
             &mut self.printed,
         )?;
         if is_good {
-            return Ok(());
+            return Ok(true);
         }
         self.bad_lines = self.bad_lines.saturating_add(1);
-        say_bad_line(self.alloc, self.lines, bytes, log)
+        Ok(false)
+    }
+
+    // Does a line, and tells what is wrong with it.
+    fn do_line<L: Log>(&mut self, bytes: &[u8], log: &mut L) -> Result<(), AllocError>
+        ensures done { OnOk result (so_far [] self.new ≡ after_line bytes.now (so_far [] self.old)) }
+        ensures stopped { OnErr result (PrintsFirst bytes.now (so_far [] self.old) self.new) }
+    {
+        let is_good = self.count_line(bytes)?;
+        say_line(self.alloc, &SCRIPT_LINES, self.lines, bytes, is_good, log)
     }
 
     // Writes what was printed.
