@@ -2,7 +2,7 @@
 use Rattle.std.proofs.Common.{◌≡◌, ℕ, List, [], ◌∷◌, map, drop, Some, sym, ap, ◌∙◌}
 use Rattle.std.specs.Global.{Vec}
 use Rattle.std.specs.List.{slice_get}
-use Rattle.rt_drive.specs.Run.{one_more}
+use Rattle.rt_connect.specs.Run.{one_more}
 use Rattle.rt_watch.specs.Queued.{items_of}
 use Rattle.rt_watch.specs.Watching.{bad_with, counted, is_good_line, numbered}
 

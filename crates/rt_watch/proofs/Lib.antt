@@ -4,3 +4,4 @@ mod Printed
 mod Queues
 mod Telling
 mod Turned
+mod Typed

@@ -3,8 +3,8 @@ use Rattle.std.proofs.Common.{◌≡◌, ◌++◌, ◌∷◌, [], ℕ, List, map
 use Rattle.std.proofs.Common.{refl, sym, ap, subst, append-nil, append_assoc}
 use Rattle.std.specs.Global.{Vec}
 use Rattle.std.specs.List.{slice_get}
-use Rattle.rt_drive.specs.Doing.{Seats}
-use Rattle.rt_drive.specs.Run.{one_more}
+use Rattle.rt_connect.specs.Doing.{Seats}
+use Rattle.rt_connect.specs.Run.{one_more}
 use Rattle.rt_watch.specs.Queued.{items_of}
 use Rattle.rt_watch.specs.Watching.{PrintsLine, PrintsLines}
 

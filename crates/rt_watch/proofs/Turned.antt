@@ -43,7 +43,7 @@ pub turn_written : {N : Type 0} (answer : Result Next WatchFault) (had has : Opt
     → WritesOut mid.terminal had has new.terminal → new ≡ record mid { terminal = new.terminal }
     → new.standing ≡ old.standing
     → IfOk answer (λ n. (quiet : ℕ)
-    × (n ≡ next (waited new.standing new.waits) new.terminal.has_ended quiet enough))
+    × (n ≡ next (waited new.standing new.terminal.has_ended new.waits) new.terminal.has_ended quiet enough))
     → IfOk answer (λ n. WritesTurn had has enough old n new)
 turn_written (Err why) had has enough old mid new turned written rest same goes = tt
 turn_written (Ok n) had has enough old mid new turned written rest same goes = record {

@@ -1,11 +1,11 @@
 -- What a round of a run does: the lines that wait, and a turn of its connection.
-use Rattle.std.specs.Prelude.{◌≡◌, ◌≢◌, ◌++◌, ℕ, List, [], Bool, true, is_some, if◌then◌else◌}
+use Rattle.std.specs.Prelude.{◌≡◌, ◌≢◌, ◌⊎◌, ◌++◌, ℕ, List, [], Bool, true, false, is_some, if◌then◌else◌}
 use Rattle.std.specs.Prelude.{Option, Some, None, Result, Ok, string_bytes}
 use Rattle.std.specs.Io.KnownBytes.{Appends as Writes}
 use Rattle.std.specs.declared.net.socket_addr.SocketAddr.{SocketAddr}
 use Rattle.rt_input.specs.declared.error.ConsoleError.TheVariants.{NoMemory}
 use Rattle.rt_lines.specs.inside.Appending.{Appends}
-use Rattle.rt_drive.specs.Doing.{disconnected}
+use Rattle.rt_connect.specs.Doing.{disconnected}
 use Rattle.rt_link.specs.Carrying.{Carried, PassesOver, Turns, is_open}
 use Rattle.rt_link.specs.declared.connection.Turn.{Turn}
 use Rattle.rt_watch.specs.Faults.{after_end}
@@ -20,7 +20,7 @@ use Rattle.rt_watch.specs.declared.terminal.Terminal.{Terminal}
 use Rattle.rt_watch.specs.declared.watched.Left.{Left}
 use Rattle.rt_watch.specs.declared.watched.Left.TheVariants as left
 use Rattle.rt_watch.specs.declared.watched.Standing.{Standing}
-use Rattle.rt_watch.specs.declared.watched.Standing.TheVariants.{Opening, Open, Gone}
+use Rattle.rt_watch.specs.declared.watched.Standing.TheVariants.{Opening, Open, Waiting, Again, Gone}
 use Rattle.rt_watch.specs.declared.watched.Watched.{Watched}
 
 -- ---- lines
@@ -41,17 +41,41 @@ pub record DoesLines (queue : Queue) (old new : Terminal) : Type 0 where
 abbrev pub opened : Bool → Standing → Standing
 opened stands was = if stands then Open else was
 
--- what a turn leaves: for how long it is waited, or the connection is gone, which is printed
-abbrev pub IsNoted : Left → ℕ → Standing → ℕ → Standing → List ℕ → Type 0
-IsNoted (left.Waits most) waits old new_waits new text = (new_waits ≡ most) × (new ≡ old) × (text ≡ [])
-IsNoted (left.Unreached why) waits old new_waits new text = ⊥
-IsNoted (left.Lost why) waits old new_waits new text =
-    (new_waits ≡ waits) × (new ≡ Gone) × (text ≡ disconnected)
+-- whether there is a connection, or one is begun
+abbrev pub is_carried : Standing → Bool
+is_carried Opening = true
+is_carried Open = true
+is_carried Waiting = false
+is_carried Again = true
+is_carried Gone = false
+
+-- where a run stands whose connection is gone: another one is to come, but where there is to be one alone
+abbrev pub lost_by : Bool → Standing
+lost_by is_once = if is_once then Gone else Waiting
+
+-- what is printed then: nothing where another one did not come about either
+abbrev pub said_lost : Standing → List ℕ
+said_lost Again = []
+said_lost standing = disconnected
+
+-- the connection is gone, which is printed
+abbrev pub IsLost : Bool → ℕ → Standing → ℕ → Standing → List ℕ → Type 0
+IsLost is_once waits old new_waits new text =
+    (new_waits ≡ waits) × (new ≡ lost_by is_once) × (text ≡ said_lost old)
+
+-- what a turn leaves: for how long it is waited, or the connection is gone
+abbrev pub IsNoted : Left → Bool → ℕ → Standing → ℕ → Standing → List ℕ → Type 0
+IsNoted (left.Waits most) is_once waits old new_waits new text =
+    (new_waits ≡ most) × (new ≡ old) × (text ≡ [])
+IsNoted (left.Unreached why) is_once waits old new_waits new text =
+    (old ≢ Opening) × IsLost is_once waits old new_waits new text
+IsNoted (left.Lost why) is_once waits old new_waits new text =
+    IsLost is_once waits old new_waits new text
 
 -- why a run ends with it: nothing listens there, or memory lacks for what is printed
 abbrev pub EndsBy : Left → SocketAddr → WatchFault → Type 0
 EndsBy (left.Waits most) address e = ⊥
-EndsBy (left.Unreached why) address e = e ≡ NotConnected address why
+EndsBy (left.Unreached why) address e = (e ≡ NotConnected address why) ⊎ (e ≡ Ended NoMemory)
 EndsBy (left.Lost why) address e = e ≡ Ended NoMemory
 
 -- once a turn of the connection was made, it is printed what its messages say, and then noted what it leaves
@@ -59,8 +83,8 @@ pub record NotesTurn {N : Type 0} (turn : Turn) (old new : Watched N) : Type 0 w
   pub news : List ℕ
   pub says : List ℕ
   pub told : PrintsNews old.connection.passed old.terminal.seats.items news new.terminal.seats.items
-  pub noted : IsNoted (left_by turn) old.waits (opened (is_open old.connection.standing) old.standing)
-      new.waits new.standing says
+  pub noted : IsNoted (left_by turn) old.is_once old.waits
+      (opened (is_open old.connection.standing) old.standing) new.waits new.standing says
   pub printed : Appends old.terminal.printed new.terminal.printed (news ++ says)
   pub rest : new ≡ record old {
     terminal = record old.terminal { seats = new.terminal.seats; printed = new.terminal.printed };
@@ -101,20 +125,23 @@ pub record DoesWaiting {N : Type 0} (queue : Queue) (had has : Option (List ℕ)
 
 -- a connection is carried on that isn't gone
 pub record IsTurned {N : Type 0} (old new : Watched N) : Type 0 where
-  pub gone : old.standing ≡ Gone → new ≡ old
-  pub turned : old.standing ≢ Gone → TakesTurn old new
+  pub gone : is_carried old.standing ≡ false → new ≡ old
+  pub turned : is_carried old.standing ≡ true → TakesTurn old new
 
--- for how long a connection waits; not where it is gone
-abbrev pub waited : Standing → ℕ → Option ℕ
-waited Opening waits = Some waits
-waited Open waits = Some waits
-waited Gone waits = None
+-- for how long a connection is waited for, or for the next one while lines come; not where there is none
+abbrev pub waited : Standing → Bool → ℕ → Option ℕ
+waited Opening has_ended waits = Some waits
+waited Open has_ended waits = Some waits
+waited Waiting has_ended waits = if has_ended then None else Some waits
+waited Again has_ended waits = Some waits
+waited Gone has_ended waits = None
 
 -- the run goes on at once where the connection has come about or is gone now, and else by what is waited for
 abbrev pub IsNext : {N : Type 0} → Standing → Watched N → ℕ → Option ℕ → Next → Type 0
 IsNext was now quiet enough n =
     (now.standing ≢ was → n ≡ GoOn)
-    × (now.standing ≡ was → n ≡ next (waited now.standing now.waits) now.terminal.has_ended quiet enough)
+    × (now.standing ≡ was → n ≡ next (waited now.standing now.terminal.has_ended now.waits)
+    now.terminal.has_ended quiet enough)
 
 -- the connection is carried on, and what is printed of it is written
 pub record WritesTurn {N : Type 0} (had has : Option (List ℕ)) (enough : Option ℕ) (old : Watched N)

@@ -1,35 +1,42 @@
 -- What a line does to a client that is watched, and what is printed of what the server sends.
-use Rattle.std.specs.Prelude.{◌≡◌, ℕ, List, [], ◌∷◌, ◌++◌, map}
-use Rattle.std.specs.Prelude.{Bool, true, false, if◌then◌else◌, Result, Ok, Err}
+use Rattle.std.specs.Prelude.{◌≡◌, ◌≢◌, ◌⊎◌, ℕ, List, [], ◌∷◌, ◌++◌, map}
+use Rattle.std.specs.Prelude.{Bool, true, false, if◌then◌else◌, Option, Result, Ok, Err}
 use Rattle.std.specs.List.{flat_map}
 use Rattle.std.specs.Option.{option_map}
+use Rattle.rt_query.specs.Select.{Shown}
 use Rattle.rt_client.specs.Calls.{Locked}
 use Rattle.rt_client.specs.Delivery.{emptied}
-use Rattle.rt_lines.specs.Orders.{order_of_bytes}
-use Rattle.rt_lines.specs.Printing.{bad_line, refusal_text}
+use Rattle.rt_client.specs.Viewing.{RefusesView, ShowsView}
+use Rattle.rt_client.specs.declared.error.ClientError.{ClientError}
+use Rattle.rt_client.specs.declared.error.ClientError.TheVariants.{NoMemory}
+use Rattle.rt_lines.specs.Typing.{typed_of_bytes}
+use Rattle.rt_lines.specs.Printing.{bad_line, id_line, refusal_text, view_text}
 use Rattle.rt_lines.specs.declared.error.LineError.{LineError}
 use Rattle.rt_lines.specs.declared.error.LineError.TheVariants as line
 use Rattle.rt_lines.specs.declared.error.Refusal.TheVariants.{Core, Wire}
 use Rattle.rt_lines.specs.declared.order.Order.{Order}
 use Rattle.rt_lines.specs.declared.order.Order.TheVariants as order
-use Rattle.rt_drive.specs.Doing.{Obeys, Seats}
-use Rattle.rt_drive.specs.Run.{one_more}
-use Rattle.rt_drive.specs.Telling.{TellsAll}
+use Rattle.rt_lines.specs.declared.typed.Typed.{Typed}
+use Rattle.rt_lines.specs.declared.typed.Typed.TheVariants as typed
+use Rattle.rt_connect.specs.Doing.{Obeys, Seats}
+use Rattle.rt_connect.specs.Printing as client
+use Rattle.rt_connect.specs.Run.{one_more}
+use Rattle.rt_connect.specs.Telling.{TellsAll}
 use Rattle.rt_link.specs.declared.taking.Passed.{Passed}
 use Rattle.rt_link.specs.declared.taking.Passed.TheVariants as passed
+use Rattle.rt_watch.specs.Asking.{Asks, is_done}
+use Rattle.rt_watch.specs.declared.asking.Asked.{Asked}
+use Rattle.rt_watch.specs.declared.asking.Asked.TheVariants as asked
+use Rattle.rt_wire.specs.declared.request.Action.TheVariants.{Put}
+use Rattle.rt_world.specs.declared.call.Call.TheVariants.{Write}
 
 -- ---- lines
 
--- whether an order is done: none that reads messages is, since they come by themselves
-abbrev pub is_done : Order → Bool
-is_done (order.Seat seat call) = true
-is_done (order.Close seat) = true
-is_done order.Cover = true
-is_done (order.Read times) = false
-
 -- whether a line is good that asks for this, though a word of it may be refused
-abbrev pub is_good : Result Order LineError → Bool
-is_good (Ok o) = is_done o
+abbrev pub is_good : Result Typed LineError → Bool
+is_good (Ok (typed.Order o)) = is_done o
+is_good (Ok (typed.View listener)) = true
+is_good (Ok (typed.Push seat path tree)) = true
 is_good (Err line.Bad) = false
 is_good (Err (line.Refused why)) = true
 is_good (Err line.NoMemory) = true
@@ -41,7 +48,7 @@ counted good n = if good then n else one_more n
 -- whether a line is good: empty, or one that is done
 abbrev pub is_good_line : List ℕ → Bool
 is_good_line [] = true
-is_good_line (b ∷ bs) = is_good (order_of_bytes (b ∷ bs))
+is_good_line (b ∷ bs) = is_good (typed_of_bytes (b ∷ bs))
 
 -- so many were bad before these lines: how many are with them
 abbrev pub bad_with : List (List ℕ) → ℕ → ℕ
@@ -62,30 +69,47 @@ abbrev pub DoesOrder : Bool → Order → ℕ → Locked → Seats → List ℕ 
 DoesOrder true o number old seats text new left = Obeys o old seats text new left
 DoesOrder false o number old seats text new left = Prints (bad_line number) old seats text new left
 
--- what the line of that number does that asks for this
-abbrev pub DoesAsked : Result Order LineError → ℕ → Locked → Seats → List ℕ → Locked → Seats → Type 0
-DoesAsked (Ok o) number old seats text new left = DoesOrder (is_done o) o number old seats text new left
-DoesAsked (Err line.Bad) number old seats text new left = Prints (bad_line number) old seats text new left
-DoesAsked (Err (line.Refused why)) number old seats text new left =
-    Prints (refusal_text why) old seats text new left
-DoesAsked (Err line.NoMemory) number old seats text new left = ⊥
+-- what a listener shows is printed, or why that is refused
+abbrev pub Views : Locked → ℕ → List ℕ → Type 0
+Views locked listener text =
+    ((shown : Option Shown) × ShowsView locked listener shown × (text ≡ view_text shown))
+    ⊎ ((why : ClientError) × RefusesView locked listener why × (why ≢ NoMemory)
+    × (text ≡ client.refusal_text why))
 
--- a line that isn't empty is done, and the seats are told what waits for them then
-pub record DoesLine (bytes : List ℕ) (number : ℕ) (old : Locked) (seats : Seats) (text : List ℕ)
+-- the push id is printed, and then what becomes of the write
+abbrev pub Pushes : List ℕ → Order → Locked → Seats → List ℕ → Locked → Seats → Type 0
+Pushes id o old seats text new left =
+    (says : List ℕ) × Obeys o old seats says new left × (text ≡ id_line id ++ says)
+
+-- what the line of that number does that asks for this
+abbrev pub DoesAsked : Asked → ℕ → Locked → Seats → List ℕ → Locked → Seats → Type 0
+DoesAsked (asked.Order o) number old seats text new left =
+    DoesOrder (is_done o) o number old seats text new left
+DoesAsked (asked.View listener) number old seats text new left =
+    Views old listener text × (new ≡ old) × (left ≡ seats)
+DoesAsked (asked.Push id seat path tree) number old seats text new left =
+    Pushes id (order.Seat seat (Write (Put path tree))) old seats text new left
+DoesAsked (asked.Refused why) number old seats text new left =
+    Prints (refusal_text why) old seats text new left
+DoesAsked asked.Bad number old seats text new left = Prints (bad_line number) old seats text new left
+
+-- what a line asks for is done, and the seats are told what waits for them then
+pub record DoesLine (asks : Asked) (number : ℕ) (old : Locked) (seats : Seats) (text : List ℕ)
     (new : Locked) (left : Seats) : Type 0 where
   pub says : List ℕ
   pub tells : List ℕ
   pub mid : Locked
   pub placed : Seats
-  pub asked : DoesAsked (order_of_bytes bytes) number old seats says mid placed
+  pub asked : DoesAsked asks number old seats says mid placed
   pub told : TellsAll mid placed tells new
   pub printed : text ≡ says ++ tells
   pub rings : left ≡ map (option_map emptied) placed
 
--- of what a lock holds nothing is known beforehand: a line is done by some client
+-- a line that isn't empty is done by some client: of what a lock holds nothing is known beforehand
 abbrev pub PrintsDone : List ℕ → ℕ → Seats → List ℕ → Seats → Type 0
 PrintsDone bytes number seats text left =
-    (old new : Locked) × DoesLine bytes number old seats text new left
+    (asks : Asked) × Asks (typed_of_bytes bytes) asks
+    × ((old new : Locked) × DoesLine asks number old seats text new left)
 
 -- an empty one does nothing
 abbrev pub PrintsLine : List ℕ → ℕ → Seats → List ℕ → Seats → Type 0

@@ -1,16 +1,21 @@
 // What a line asks of a client's locked value and its seats, and what is printed of it and of what the server
 // sends.
 ghost use Rattle.std.specs.Prelude.{◌≡◌, ◌++◌, ℕ, List, IfOk, OnOk};
-ghost use Rattle.rt_lines.specs.Orders.{order_of_bytes};
 ghost use Rattle.rt_lines.specs.inside.Appending.{Appends};
-ghost use Rattle.rt_drive.specs.Doing.{disconnected};
-ghost use Rattle.rt_watch.specs.Watching.{DoesAsked, DoesLine, DoesOrder, TellsNews, is_done, is_good};
+ghost use Rattle.rt_connect.specs.Doing.{disconnected};
+ghost use Rattle.rt_lines.specs.declared.order.Order.TheVariants as order;
+ghost use Rattle.rt_wire.specs.declared.request.Action.TheVariants.{Put};
+ghost use Rattle.rt_world.specs.declared.call.Call.TheVariants.{Write};
+ghost use Rattle.rt_watch.specs.Asking.{is_done, is_good_asked};
+ghost use Rattle.rt_watch.specs.Watching.{DoesAsked, DoesLine, DoesOrder, Pushes, TellsNews, Views};
 ghost use Rattle.rt_watch.specs.Watching.{passed_text, passed_texts};
 
-use rt_client::Shared;
-use rt_drive::{Seats, obey, settle_all};
-use rt_lines::{LineError, Order, Refusal, write_bad_line, write_refusal};
+use crate::asking::Asked;
+use rt_client::{Action, Call, Shared};
+use rt_connect::{Seats, obey, settle_all, write_why};
+use rt_lines::{Order, Refusal, write_bad_line, write_id, write_refusal, write_view};
 use rt_link::Passed;
+use rt_tree::{Key, Path, Tree};
 use std::alloc::{AllocError, Global};
 
 // Whether an order is done. Messages come by themselves, so that one which reads them is not.
@@ -46,6 +51,48 @@ fn do_order(
     Ok(true)
 }
 
+// Prints what the listener of that number shows.
+fn show_view(
+    out: &mut String,
+    alloc: Global,
+    shared: &Shared,
+    listener: u64,
+) -> Result<(), AllocError>
+    ensures { OnOk result ((text : List ℕ) × Appends out.old out.new text
+        × Views shared.now listener text) }
+{
+    match shared.view(listener) {
+        Ok(shown) => {
+            let written = write_view(out, alloc, shown.as_ref());
+            drop(shown);
+            written
+        }
+        Err(why) => write_why(out, why),
+    }
+}
+
+// Prints a push id, and makes the write at the path that ends with it.
+#[tactic(auto, using(crate::proofs::Typed::pushes))]
+fn do_push(
+    out: &mut String,
+    alloc: Global,
+    shared: &mut Shared,
+    seats: &mut Seats,
+    id: &Key,
+    seat: u64,
+    path: Path,
+    tree: Tree,
+) -> Result<(), AllocError>
+    ensures { OnOk result ((text : List ℕ) × Appends out.old out.new text
+        × Pushes id.now (order.Seat seat (Write (Put path tree))) shared.old seats.old.items text
+        shared.new seats.new.items) }
+{
+    write_id(out, id.text())?;
+    let action = Action::Put { path, tree };
+    let call = Call::Write { action };
+    obey(out, alloc, shared, seats, Order::Seat { seat, call })
+}
+
 // Does what the line of that number asks for, and prints what became of it. Answers whether the line is
 // good.
 fn do_asked(
@@ -54,42 +101,55 @@ fn do_asked(
     shared: &mut Shared,
     seats: &mut Seats,
     number: u64,
-    bytes: &[u8],
+    asked: Asked,
 ) -> Result<bool, AllocError>
-    ensures good { IfOk result (λ good. good ≡ is_good (order_of_bytes bytes.now)) }
+    ensures good { IfOk result (λ good. good ≡ is_good_asked asked) }
     ensures done { OnOk result ((text : List ℕ) × Appends out.old out.new text
-        × DoesAsked (order_of_bytes bytes.now) number shared.old seats.old.items text shared.new
-        seats.new.items) }
+        × DoesAsked asked number shared.old seats.old.items text shared.new seats.new.items) }
 {
-    match Order::read(alloc, bytes) {
-        Ok(order) => do_order(out, alloc, shared, seats, number, order),
-        Err(LineError::Refused(refusal)) => {
+    match asked {
+        Asked::Order(order) => do_order(out, alloc, shared, seats, number, order),
+        Asked::View { listener } => {
+            show_view(out, alloc, shared, listener)?;
+            Ok(true)
+        }
+        Asked::Push {
+            id,
+            seat,
+            path,
+            tree,
+        } => {
+            let pushed = do_push(out, alloc, shared, seats, &id, seat, path, tree);
+            drop(id);
+            pushed?;
+            Ok(true)
+        }
+        Asked::Refused(refusal) => {
             write_refusal(out, refusal)?;
             Ok(true)
         }
-        Err(LineError::Bad) => {
+        Asked::Bad => {
             write_bad_line(out, number)?;
             Ok(false)
         }
-        Err(LineError::NoMemory) => Err(AllocError),
     }
 }
 
-// Does the line of that number, which is not empty, and prints what became of it and what the seats are told
-// then. Answers whether the line is good.
+// Does what the line of that number asks for, and prints what became of it and what the seats are told then.
+// Answers whether the line is good.
 pub(crate) fn do_line(
     out: &mut String,
     alloc: Global,
     shared: &mut Shared,
     seats: &mut Seats,
     number: u64,
-    bytes: &[u8],
+    asked: Asked,
 ) -> Result<bool, AllocError>
-    ensures good { IfOk result (λ good. good ≡ is_good (order_of_bytes bytes.now)) }
+    ensures good { IfOk result (λ good. good ≡ is_good_asked asked) }
     ensures done { OnOk result ((text : List ℕ) × Appends out.old out.new text
-        × DoesLine bytes.now number shared.old seats.old.items text shared.new seats.new.items) }
+        × DoesLine asked number shared.old seats.old.items text shared.new seats.new.items) }
 {
-    let is_good = do_asked(out, alloc, shared, seats, number, bytes)?;
+    let is_good = do_asked(out, alloc, shared, seats, number, asked)?;
     settle_all(out, alloc, shared, seats)?;
     Ok(is_good)
 }

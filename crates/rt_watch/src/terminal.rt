@@ -4,27 +4,34 @@ ghost use Rattle.std.specs.Prelude.{◌≡◌, ◌+◌, ◌<◌, ◌^◌, ℕ, L
 ghost use Rattle.std.specs.Prelude.{true, is_some, IfOk, IfErr, OnOk};
 ghost use Rattle.std.specs.Io.KnownBytes as Io;
 ghost use Rattle.std.specs.Sync.Mutex.{mutex_guard_value};
-ghost use Rattle.rt_lines.specs.Orders.{order_of_bytes};
+ghost use Rattle.rt_lines.specs.Typing.{typed_of_bytes};
 ghost use Rattle.rt_lines.specs.inside.Appending.{Appends};
-ghost use Rattle.rt_drive.specs.Doing.{disconnected};
-ghost use Rattle.rt_drive.specs.Run.{one_more};
+ghost use Rattle.rt_connect.specs.Doing.{disconnected};
+ghost use Rattle.rt_connect.specs.Run.{one_more};
 ghost use Rattle.rt_watch.specs.Faults.{IsNoWriteFault, TellsWrite, after_end};
 ghost use Rattle.rt_watch.specs.Queued.{items_of};
 ghost use Rattle.rt_watch.specs.Rounds.{DoesLines};
 ghost use Rattle.rt_watch.specs.Watching.{PrintsDone, PrintsLine, PrintsLines, PrintsNews, bad_with, counted};
 ghost use Rattle.rt_watch.specs.Watching.{is_good, is_good_line, numbered};
 
+use crate::asking::asked_of;
 use crate::doing::{do_line, tell_news, write_lost};
 use crate::fault::{WatchFault, after_input};
 use crate::lines::{End, Lines, Queue, Taken};
-use rt_drive::Seats;
+use rt_connect::Seats;
 use rt_input::{Drain, Log, write_printed};
-use rt_lines::say_bad_line;
+use rt_lines::{WATCH_LINES, say_line};
 use rt_link::{Linked, Lost, Passed};
 use std::alloc::{AllocError, Global};
 use std::collections::VecDeque;
+use std::random::RandomSource;
 use std::sync::{MutexGuard, Wait};
 use std::time::{Clock, Instant};
+
+// What is told once no more lines come.
+const ENDED: &str = "\
+the lines have ended: it goes on until the connection ends or, with --idle, nothing was printed for so \
+long; Ctrl-C ends it at once";
 
 // The seats that lines call, how many lines were done and how many of them were bad, whether no more come,
 // what is printed and not written yet, and since when nothing was.
@@ -59,22 +66,31 @@ impl Terminal {
     }
 
     // Does a line that isn't empty, and prints what became of it. Answers whether it is good.
-    fn ask<R: Wait>(&mut self, rt: &R, linked: &Linked, bytes: &[u8]) -> Result<bool, AllocError>
+    #[tactic(auto, using(crate::proofs::Typed::asks))]
+    fn ask<R: Wait + Clock + RandomSource>(
+        &mut self,
+        rt: &R,
+        linked: &Linked,
+        bytes: &[u8],
+    ) -> Result<bool, WatchFault>
+        ensures fault { IfErr result IsNoWriteFault }
         ensures rest { self.new
             ≡ record (self.old) { printed = self.new.printed; seats = self.new.seats } }
-        ensures good { IfOk result (λ good. good ≡ is_good (order_of_bytes bytes.now)) }
+        ensures good { IfOk result (λ good. good ≡ is_good (typed_of_bytes bytes.now)) }
         ensures printed { OnOk result ((text : List ℕ) × Appends self.old.printed self.new.printed text
             × PrintsDone bytes.now self.old.number self.old.seats.items text self.new.seats.items) }
     {
+        let asked = asked_of(rt, self.alloc, linked, bytes)?;
         let mut shared = linked.client.shared.lock(rt);
-        do_line(
+        let is_good = do_line(
             &mut self.printed,
             self.alloc,
             &mut shared,
             &mut self.seats,
             self.number,
-            bytes,
-        )
+            asked,
+        )?;
+        Ok(is_good)
     }
 
     // Counts a line where it is bad, and tells what is wrong with it.
@@ -82,21 +98,22 @@ impl Terminal {
         ensures counted { self.new
             ≡ record (self.old) { bad_lines = counted is_good self.old.bad_lines } }
     {
-        if is_good {
-            return Ok(());
+        if !is_good {
+            self.bad_lines = self.bad_lines.saturating_add(1);
         }
-        self.bad_lines = self.bad_lines.saturating_add(1);
-        say_bad_line(self.alloc, self.number, bytes, log)
+        say_line(self.alloc, &WATCH_LINES, self.number, bytes, is_good, log)
     }
 
     // Does the next line, and prints what became of it.
-    fn do_line<R: Wait, L: Log>(
+    #[tactic(auto, using(crate::proofs::Faulting::faults))]
+    fn do_line<R: Wait + Clock + RandomSource, L: Log>(
         &mut self,
         rt: &R,
         linked: &Linked,
         bytes: &[u8],
         log: &mut L,
-    ) -> Result<(), AllocError>
+    ) -> Result<(), WatchFault>
+        ensures fault { IfErr result IsNoWriteFault }
         ensures numbered { self.new.number ≡ one_more self.old.number }
         ensures counted { OnOk result
             (self.new.bad_lines ≡ counted (is_good_line bytes.now) self.old.bad_lines) }
@@ -110,17 +127,20 @@ impl Terminal {
             return Ok(());
         }
         let is_good = self.ask(rt, linked, bytes)?;
-        self.count(bytes, is_good, log)
+        self.count(bytes, is_good, log)?;
+        Ok(())
     }
 
     // Does lines, in order.
-    fn do_all<R: Wait, L: Log>(
+    #[tactic(auto, using(crate::proofs::Faulting::faults))]
+    fn do_all<R: Wait + Clock + RandomSource, L: Log>(
         &mut self,
         rt: &R,
         linked: &Linked,
         mut lines: VecDeque<Vec<u8>>,
         log: &mut L,
-    ) -> Result<(), AllocError>
+    ) -> Result<(), WatchFault>
+        ensures fault { IfErr result IsNoWriteFault }
         ensures counted { OnOk result (self.new.bad_lines
             ≡ bad_with (map items_of lines.items) self.old.bad_lines) }
         ensures printed { OnOk result ((text : List ℕ) × Appends self.old.printed self.new.printed text
@@ -153,7 +173,7 @@ impl Terminal {
 
     // Does the lines that wait, and notes how the input has ended, if it has.
     #[tactic(auto, using(crate::proofs::Faulting::faults))]
-    pub(crate) fn do_lines<R: Wait + Clock, L: Log>(
+    pub(crate) fn do_lines<R: Wait + Clock + RandomSource, L: Log>(
         &mut self,
         rt: &R,
         linked: &Linked,
@@ -169,6 +189,9 @@ impl Terminal {
             self.quiet_since = Instant::now(rt)?;
         }
         self.do_all(rt, linked, lines, log)?;
+        if end.is_some() {
+            log.tell(ENDED);
+        }
         self.note_end(end)
     }
 
@@ -194,12 +217,20 @@ impl Terminal {
         )
     }
 
-    // Prints that the connection is gone, and tells why.
-    pub(crate) fn tell_lost<L: Log>(&mut self, why: &Lost, log: &mut L) -> Result<(), AllocError>
-        ensures printed { OnOk result (Appends self.old.printed self.new.printed disconnected) }
+    // Prints that the connection is gone, where that is to be printed, and tells why.
+    pub(crate) fn tell_lost<L: Log>(
+        &mut self,
+        why: &Lost,
+        is_printed: bool,
+        log: &mut L,
+    ) -> Result<(), AllocError>
+        ensures printed { OnOk result (Appends self.old.printed self.new.printed
+            (if is_printed then disconnected else [])) }
         ensures rest { self.new ≡ record (self.old) { printed = self.new.printed } }
     {
-        write_lost(&mut self.printed)?;
+        if is_printed {
+            write_lost(&mut self.printed)?;
+        }
         if log.is_on() {
             let line = format!(in self.alloc; "{why}")?;
             log.tell(line.as_str());

@@ -1,13 +1,13 @@
 // A client that is driven by lines, while what the server sends is printed.
-ghost use Rattle.std.specs.Prelude.{◌≡◌, ◌≢◌, ◌+◌, ◌<◌, ◌≤◌, ◌^◌, ℕ, List, [], Ok, Err};
-ghost use Rattle.std.specs.Prelude.{IfOk, IfErr, OnOk};
+ghost use Rattle.std.specs.Prelude.{◌≡◌, ◌≢◌, ◌+◌, ◌<◌, ◌≤◌, ◌^◌, ℕ, List, [], Ok, Err, false};
+ghost use Rattle.std.specs.Prelude.{if◌then◌else◌, IfOk, IfErr, OnOk};
+ghost use Rattle.rt_connect.specs.Doing.{disconnected};
 ghost use Rattle.std.specs.Sync.Mutex.{mutex_guard_value};
 ghost use Rattle.rt_lines.specs.inside.Appending.{Appends};
-ghost use Rattle.rt_drive.specs.Doing.{disconnected};
 ghost use Rattle.rt_watch.specs.Faults.{IsNoWriteFault, TellsWrite, of_link};
-ghost use Rattle.rt_watch.specs.Pacing.{left_by, millis_of, next};
+ghost use Rattle.rt_watch.specs.Pacing.{is_refused, left_by, millis_of, next, unopened};
 ghost use Rattle.rt_watch.specs.Rounds.{DoesWaiting, EndsBy, IsNoted, IsTurned, NotesTurn, Rounds};
-ghost use Rattle.rt_watch.specs.Rounds.{WritesTurn, waited};
+ghost use Rattle.rt_watch.specs.Rounds.{WritesTurn, is_carried, lost_by, said_lost, waited};
 ghost use Rattle.rt_watch.specs.Watching.{PrintsNews};
 
 use crate::fault::WatchFault;
@@ -17,11 +17,13 @@ use crate::reading::feed;
 use crate::terminal::Terminal;
 use mio::net::TcpStream;
 use rt_client::{Client, Seat};
-use rt_drive::open_seats;
+use rt_connect::open_seats;
 use rt_input::{ConsoleError, Drain, Log, Source};
 use rt_link::{Connection, Link, LinkFault, Linked, Lost, Turn, link_crossing_law};
+use rt_socket::wait_after;
 use rt_world::Limits;
 use std::alloc::{AllocError, Global};
+use std::io::ErrorKind;
 use std::net::{Net, SocketAddr};
 use std::random::RandomSource;
 use std::sync::{Arc, MutexGuard, Wait};
@@ -40,7 +42,20 @@ pub struct Watching {
     pub address: SocketAddr,
     /// After how many milliseconds in which nothing was printed the run ends, once the input has ended.
     pub idle_ms: Option<u64>,
+    /// Whether there is no second connection where the first has ended.
+    pub is_once: bool,
 }
+
+// What is told once the handshake is done, of the first connection and of a later one.
+const CONNECTED: &str = "\
+connected: type a line such as [\"listen\",1,\"/a\",[]]; 'kaltewi watch --help' has all forms; Ctrl-D ends \
+the lines, and Ctrl-C the run";
+
+const CONNECTED_AGAIN: &str = "connected again";
+
+// What is told where the connection is gone, and another one is to come.
+const WILL_CONNECT: &str = "\
+the lines go on, and it connects again: in a second, and then less and less often, at least each 30 seconds";
 
 // Where the connection stands.
 #[derive(Clone, Copy, Debug, PartialEq, Eq)]
@@ -49,6 +64,10 @@ enum Standing {
     Opening,
     // It stands.
     Open,
+    // It has ended, or did not come about, and another one is to come.
+    Waiting,
+    // The handshake of another one is not done.
+    Again,
     // It has ended, or did not come about.
     Gone,
 }
@@ -62,6 +81,12 @@ struct Watched<N: RandomSource + Drop> {
     standing: Standing,
     // What the connection waits for next.
     waits: u64,
+    is_once: bool,
+    // When the connection was begun, and when it was lost, where that was noted; and how many milliseconds
+    // were waited before it was begun, or are before the next one.
+    begun: Instant,
+    lost: Option<Instant>,
+    waited: u64,
 }
 
 // What a turn of the connection leaves of a run.
@@ -82,6 +107,33 @@ fn millis_of(time: Duration) -> u64
     u64::try_from(time.as_millis()).unwrap_or(u64::MAX)
 }
 
+// Whether a connection does not come about since nothing listens there. A stream that is closed or reset
+// before the handshake is done has reached somebody.
+fn is_refused(why: &Lost) -> bool
+    ensures { result ≡ is_refused why.now }
+{
+    match why {
+        Lost::Unreachable(why) => matches!(why.kind(), ErrorKind::ConnectionRefused),
+        Lost::NoHandshake(_)
+        | Lost::Late
+        | Lost::Failed(_)
+        | Lost::Closed
+        | Lost::ClosedWith(_)
+        | Lost::Silent => false,
+    }
+}
+
+// What is left where no connection comes about.
+fn unopened(why: Lost) -> Left
+    ensures { result ≡ unopened why }
+{
+    if is_refused(&why) {
+        Left::Unreached(why)
+    } else {
+        Left::Lost(why)
+    }
+}
+
 // What a turn of the connection leaves.
 fn left_by(turn: Turn) -> Left
     ensures { result ≡ left_by turn }
@@ -89,24 +141,81 @@ fn left_by(turn: Turn) -> Left
     match turn {
         Turn::Idle(most) => Left::Waits(millis_of(most)),
         Turn::More => Left::Waits(0),
-        Turn::NotOpened(why @ Lost::Unreachable(_)) => Left::Unreached(why),
-        Turn::NotOpened(why) | Turn::Ended(why) => Left::Lost(why),
+        Turn::NotOpened(why) => unopened(why),
+        Turn::Ended(why) => Left::Lost(why),
+    }
+}
+
+// For how long a connection is waited for, or for the next one while lines come; not where there is none.
+fn waited(standing: Standing, has_ended: bool, waits: u64) -> Option<u64>
+    ensures { result ≡ waited standing has_ended waits }
+{
+    match standing {
+        Standing::Opening | Standing::Open | Standing::Again => Some(waits),
+        Standing::Waiting if has_ended => None,
+        Standing::Waiting => Some(waits),
+        Standing::Gone => None,
+    }
+}
+
+// Where a run stands whose connection is gone.
+fn standing_lost(is_once: bool) -> Standing
+    ensures { result ≡ lost_by is_once }
+{
+    if is_once {
+        Standing::Gone
+    } else {
+        Standing::Waiting
+    }
+}
+
+// Whether it is printed that the connection is gone: not where another one did not come about either.
+fn is_news(standing: Standing) -> bool
+    ensures { (if result then disconnected else []) ≡ said_lost standing }
+{
+    match standing {
+        Standing::Opening | Standing::Open | Standing::Waiting | Standing::Gone => true,
+        Standing::Again => false,
+    }
+}
+
+// Whether there is a connection, or one is begun.
+fn is_carried(standing: Standing) -> bool
+    ensures { result ≡ is_carried standing }
+{
+    match standing {
+        Standing::Opening | Standing::Open | Standing::Again => true,
+        Standing::Waiting | Standing::Gone => false,
     }
 }
 
 impl<N: RandomSource + Drop> Watched<N> {
-    // The connection is gone, which is printed, and told why.
+    // The connection is gone, which is printed where one stood or was the first, and told why.
     fn lose<L: Log>(&mut self, why: &Lost, log: &mut L) -> Result<(), AllocError>
-        ensures gone { self.new.standing ≡ Standing.Gone }
-        ensures printed { OnOk result
-            (Appends self.old.terminal.printed self.new.terminal.printed disconnected) }
+        ensures gone { self.new.standing ≡ lost_by self.old.is_once }
+        ensures printed { OnOk result (Appends self.old.terminal.printed self.new.terminal.printed
+            (said_lost self.old.standing)) }
         ensures rest { self.new ≡ record (self.old) {
           terminal = record (self.old.terminal) { printed = self.new.terminal.printed };
           standing = self.new.standing;
         } }
     {
-        self.standing = Standing::Gone;
-        self.terminal.tell_lost(why, log)
+        let is_news = is_news(self.standing);
+        self.standing = standing_lost(self.is_once);
+        self.terminal.tell_lost(why, is_news, log)?;
+        if is_news && !self.is_once && !self.terminal.has_ended {
+            log.tell(WILL_CONNECT);
+        }
+        Ok(())
+    }
+
+    // Tells that the connection stands, where it did not stand before.
+    fn greet<L: Log>(&self, log: &mut L) {
+        match self.standing {
+            Standing::Opening => log.tell(CONNECTED),
+            Standing::Again => log.tell(CONNECTED_AGAIN),
+            Standing::Open | Standing::Waiting | Standing::Gone => {}
+        }
     }
 
     // Prints what the messages say that the client has taken.
@@ -136,10 +245,10 @@ impl<N: RandomSource + Drop> Watched<N> {
         log: &mut L,
     ) -> Result<(), WatchFault>
         ensures fault { IfErr result IsNoWriteFault }
-        ensures gone { self.old.standing ≡ Standing.Gone → (result ≡ Ok tt) × (self.new ≡ self.old) }
+        ensures gone { is_carried self.old.standing ≡ false → (result ≡ Ok tt) × (self.new ≡ self.old) }
         ensures turned { OnOk result (IsTurned self.old self.new) }
     {
-        if self.standing == Standing::Gone {
+        if !is_carried(self.standing) {
             return Ok(());
         }
         let turn = self.connection.turn(rt, &linked.client)?;
@@ -159,6 +268,7 @@ impl<N: RandomSource + Drop> Watched<N> {
         ensures noted { OnOk result (NotesTurn turn self.old self.new) }
     {
         if self.connection.is_open() {
+            self.greet(log);
             self.standing = Standing::Open;
         }
         if let Err(why) = self.tell_news(rt, linked) {
@@ -174,7 +284,7 @@ impl<N: RandomSource + Drop> Watched<N> {
         ensures fault { IfErr result IsNoWriteFault }
         ensures noted { OnOk result ((text : List ℕ)
             × Appends self.old.terminal.printed self.new.terminal.printed text
-            × IsNoted (left_by turn) self.old.waits self.old.standing self.new.waits
+            × IsNoted (left_by turn) self.old.is_once self.old.waits self.old.standing self.new.waits
             self.new.standing text) }
         ensures ends { IfErr result (EndsBy (left_by turn) self.old.address) }
         ensures rest { self.new ≡ record (self.old) {
@@ -188,11 +298,13 @@ impl<N: RandomSource + Drop> Watched<N> {
                 self.waits = most;
                 Ok(())
             }
-            Left::Unreached(why) => Err(WatchFault::NotConnected {
-                address: self.address,
-                why,
-            }),
-            Left::Lost(why) => {
+            Left::Unreached(why) if self.standing == Standing::Opening => {
+                Err(WatchFault::NotConnected {
+                    address: self.address,
+                    why,
+                })
+            }
+            Left::Unreached(why) | Left::Lost(why) => {
                 let lost = self.lose(&why, log);
                 drop(why);
                 lost?;
@@ -204,7 +316,7 @@ impl<N: RandomSource + Drop> Watched<N> {
     // Does the lines that wait, once the connection has come about or is gone, and writes what is printed of
     // them.
     #[tactic(auto, using(crate::proofs::Turned::waits))]
-    fn do_waiting<R: Wait + Clock, D: Drain, L: Log>(
+    fn do_waiting<R: Wait + Clock + RandomSource, D: Drain, L: Log>(
         &mut self,
         rt: &R,
         linked: &Linked,
@@ -232,13 +344,10 @@ impl<N: RandomSource + Drop> Watched<N> {
     fn next<R: Clock>(&self, rt: &R, enough: Option<u64>) -> Result<Next, WatchFault>
         ensures fault { IfErr result IsNoWriteFault }
         ensures next { IfOk result (λ n. (quiet : ℕ)
-            × (n ≡ next (waited self.now.standing self.now.waits) self.now.terminal.has_ended quiet
-            enough)) }
+            × (n ≡ next (waited self.now.standing self.now.terminal.has_ended self.now.waits)
+            self.now.terminal.has_ended quiet enough)) }
     {
-        let connection = match self.standing {
-            Standing::Opening | Standing::Open => Some(self.waits),
-            Standing::Gone => None,
-        };
+        let connection = waited(self.standing, self.terminal.has_ended, self.waits);
         let quiet = millis_of(self.terminal.quiet_since.elapsed(rt)?);
         Ok(next_of(connection, self.terminal.has_ended, quiet, enough))
     }
@@ -271,7 +380,7 @@ impl<N: RandomSource + Drop> Watched<N> {
 
     // One round: lines are done that wait, and the connection is carried on.
     #[tactic(auto, using(crate::proofs::Faulting::faults))]
-    fn round<R: Wait + Clock, D: Drain, L: Log>(
+    fn round<R: Wait + Clock + RandomSource, D: Drain, L: Log>(
         &mut self,
         rt: &R,
         linked: &Linked,
@@ -307,11 +416,64 @@ impl<N: RandomSource + Drop> Watched<N> {
         Ok(self.terminal.bad_lines)
     }
 
+    // Notes when the connection was lost, and for how long the next one is waited for. Answers since when.
+    #[tactic(auto, using(crate::proofs::Faulting::faults))]
+    fn lost_since<R: Clock>(&mut self, rt: &R) -> Result<Instant, WatchFault>
+        ensures fault { IfErr result IsNoWriteFault }
+    {
+        if let Some(lost) = self.lost {
+            return Ok(lost);
+        }
+        let stood = millis_of(self.begun.elapsed(rt)?);
+        self.waited = wait_after(self.waited, stood);
+        let now = Instant::now(rt)?;
+        self.lost = Some(now);
+        Ok(now)
+    }
+}
+
+impl<R: Net + Wait + Clock + RandomSource + Clone + Drop> Watched<R> {
+    // Begins another connection.
+    #[tactic(auto, using(crate::proofs::Faulting::faults))]
+    fn connect(&mut self, rt: &R, alloc: Global, link: &mut Link) -> Result<(), WatchFault>
+        ensures fault { IfErr result IsNoWriteFault }
+    {
+        self.lost = None;
+        self.begun = Instant::now(rt)?;
+        self.waits = 0;
+        match link.connect(rt, alloc, rt.clone()?, self.address)? {
+            Ok(connection) => {
+                self.connection = connection;
+                self.standing = Standing::Again;
+            }
+            Err(why) => drop(why),
+        }
+        Ok(())
+    }
+
+    // Begins another connection where the last is gone, there is to be one, and enough time has gone by.
+    #[tactic(auto, using(crate::proofs::Faulting::faults))]
+    fn connect_again(&mut self, rt: &R, alloc: Global, link: &mut Link) -> Result<(), WatchFault>
+        ensures fault { IfErr result IsNoWriteFault }
+    {
+        if self.standing != Standing::Waiting || self.terminal.has_ended {
+            return Ok(());
+        }
+        let lost = self.lost_since(rt)?;
+        let passed = millis_of(lost.elapsed(rt)?);
+        if passed < self.waited {
+            self.waits = self.waited - passed;
+            return Ok(());
+        }
+        self.connect(rt, alloc, link)
+    }
+
     // Runs until the input has ended, and then the connection or the news.
     #[tactic(auto, using(crate::proofs::Faulting::faults))]
-    fn run<R: Wait + Clock, D: Drain, L: Log>(
+    fn run<D: Drain, L: Log>(
         &mut self,
         rt: &R,
+        alloc: Global,
         linked: &Linked,
         link: &mut Link,
         lines: &Lines,
@@ -324,6 +486,7 @@ impl<N: RandomSource + Drop> Watched<N> {
         ensures fault { IfErr result (λ e. TellsWrite e (D.failures writer.old) (D.failures writer.new)) }
     {
         for _ in rt.forever() {
+            self.connect_again(rt, alloc, link)?;
             let queue = lines.lock(rt);
             match self.round(rt, linked, lines, queue, enough, writer, log)? {
                 Next::GoOn => {}
@@ -383,11 +546,13 @@ fn begin<R: Net + Clock + RandomSource + Clone + Drop>(
     alloc: Global,
     link: &mut Link,
     seats: Vec<Seat>,
-    address: SocketAddr,
+    watching: Watching,
 ) -> Result<Watched<R>, WatchFault>
     ensures { IfErr result IsNoWriteFault }
 {
-    let terminal = Terminal::new(alloc, open_seats(alloc, seats)?, Instant::now(rt)?);
+    let begun = Instant::now(rt)?;
+    let address = watching.address;
+    let terminal = Terminal::new(alloc, open_seats(alloc, seats)?, begun);
     match link.connect(rt, alloc, rt.clone()?, address)? {
         Ok(connection) => Ok(Watched {
             address,
@@ -395,6 +560,10 @@ fn begin<R: Net + Clock + RandomSource + Clone + Drop>(
             connection,
             standing: Standing::Opening,
             waits: 0,
+            is_once: watching.is_once,
+            begun,
+            lost: None,
+            waited: 0,
         }),
         Err(why @ Lost::Unreachable(_)) => {
             drop(terminal);
@@ -415,9 +584,13 @@ fn begin<R: Net + Clock + RandomSource + Clone + Drop>(
 /// prints nothing itself, but why it is refused. Answers the number of bad lines.
 ///
 /// Lines are done from when the handshake is done. Where none comes about, and where the connection ends,
-/// `disconnected` is printed, and the lines go on. Once the input has ended the run goes on until the
-/// connection has ended, or nothing was printed for so long as is asked for. Then the client says that it
-/// goes, and waits a second at most until the server has gone too.
+/// `disconnected` is printed, and the lines go on. While lines may come another connection is begun then, but
+/// where there is to be one alone: after a second, twice as late behind each further end, up to 30 seconds,
+/// as of [`Link::keep`]. Once the input has ended the run goes on until the connection has ended, or nothing
+/// was printed for so long as is asked for. Then the client says that it goes, and waits a second at most
+/// until the server has gone too.
+///
+/// The log is told how the connection stands, what to type, and what is wrong with each line.
 ///
 /// The lines are read in a thread of their own, which ends with the input. It is not waited for where the
 /// run ends early. The reader is given back where it is: that its cause can be had where it failed.
@@ -451,7 +624,7 @@ pub fn watch<
         Ok(opened) => opened,
         Err(why) => return (Err(why), Some(reader)),
     };
-    let mut watched = match begin(rt, alloc, &mut link, seats, watching.address) {
+    let mut watched = match begin(rt, alloc, &mut link, seats, watching) {
         Ok(begun) => begun,
         Err(why) => return (Err(why), Some(reader)),
     };
@@ -461,6 +634,7 @@ pub fn watch<
     };
     let outcome = watched.run(
         rt,
+        alloc,
         &linked,
         &mut link,
         &lines,

@@ -1,7 +1,7 @@
 use Rattle.std.proofs.Common.{rules, ◌≡◌, ◌++◌, ◌∙◌, ap, subst, sym, length, map, drop, Some, string_bytes, append_assoc}
 use Rattle.std.specs.List.{slice_get}
 use Rattle.std.proofs.lemmas.List.{nil_from_length}
-use Rattle.rt_drive.specs.Run.{one_more}
+use Rattle.rt_connect.specs.Run.{one_more}
 use Rattle.rt_watch.specs.Queued.{items_of}
 use Rattle.rt_watch.specs.Watching.{PrintsLine, bad_with, counted, is_good_line, numbered}
 use Rattle.rt_watch.proofs.Counting.{bad_first, number_first}
