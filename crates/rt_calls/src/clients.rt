@@ -102,6 +102,7 @@ fn call_locked(shared: &mut Shared, name: Word, line: &mut Line) -> Told {
         "cover" => cover(shared, line),
         "view" => view(shared, line),
         "push_key" => push_key(shared, line),
+        "stop" => Ok(shared.stop()),
         _ => make(shared, name, line),
     }
 }

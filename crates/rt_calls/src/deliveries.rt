@@ -80,6 +80,16 @@ struct Waits<R> {
 
 impl<R: Wait> Wait for Waits<R> {}
 
+// What kind of an item it is.
+fn tell_kind(item: &Item, line: &mut Line) {
+    line.say(match item {
+        Item::Receipt(_) => " receipt",
+        Item::Batch(_) => " batch",
+        Item::Settled { .. } => " settled",
+        Item::Cancelled { .. } => " cancelled",
+    });
+}
+
 fn new_basket(alloc: Global) -> Result<Basket, Fault> {
     let items = HeapCircularBuffer::with_capacity(alloc, ROOM)?;
     Ok(Basket { items })
@@ -130,5 +140,23 @@ pub(crate) fn deliver<R: Wait>(client: &mut Client, seat: &mut Seat, line: &mut 
         line.say(" under the lock");
     }
     tell_all(&mut sink.basket, line);
+    Ok(())
+}
+
+// `for_each TIMES`: the kinds of so many items, of which the last is refused. It waits where there are fewer.
+pub(crate) fn for_each<R: Wait>(client: &Client, seat: &mut Seat, line: &mut Line) -> Told {
+    let mut left: u64 = line.number();
+    line.sound()?;
+    let rt = Waits::<R> { rt: PhantomData };
+    let given = seat.for_each(&rt, client, |item| {
+        tell_kind(item, line);
+        left = left.wrapping_sub(1);
+        if left == 0 { Err(()) } else { Ok(()) }
+    });
+    match given {
+        Ok(Ok(())) => line.say(" and it stops"),
+        Ok(Err(())) => line.say(" is refused"),
+        Err(error) => return refused(error, line),
+    }
     Ok(())
 }

@@ -5,6 +5,11 @@
 //! A call that lacks memory prints `NoMemory`, and is made once more: since `./check` refuses one
 //! allocation of a run, all that is printed but for this line has to be what is printed with none
 //! refused. Empty lines, and those that begin with `#`, are passed over.
+//!
+//! ```text
+//! rt_calls                          makes the calls of its input
+//! rt_calls FIRST COUNT CALLS        so many runs of threads over one client (`stress.rt`)
+//! ```
 #![tactic(auto)]
 
 mod cache;
@@ -20,6 +25,7 @@ mod mirrors;
 mod peers;
 mod seats;
 mod store;
+mod stress;
 mod tell;
 mod tree;
 mod view;
@@ -29,6 +35,7 @@ mod writes;
 use crate::clients::Seats;
 use crate::fault::{Fault, Told};
 use crate::line::Line;
+use anyhow::Error;
 use rt_cache::Brought;
 use rt_client::Client;
 use rt_mail::{Inbox, Lane, Mirror};
@@ -115,7 +122,24 @@ impl State {
     }
 }
 
+// The status of the program where runs of threads were made.
+fn status_of(rt: &HostRuntime, made: Result<(), Error>) -> ExitCode {
+    match made {
+        Ok(()) => ExitCode::SUCCESS,
+        Err(error) => {
+            let _ = eprintln!(rt; "Error: {error}");
+            ExitCode::FAILURE
+        }
+    }
+}
+
 fn main(rt: HostRuntime) -> ExitCode {
+    let Ok(asked) = stress::asked(&rt) else {
+        return ExitCode::FAILURE;
+    };
+    if let Some(runs) = asked {
+        return status_of(&rt, stress::play(&rt, rt.alloc(), runs));
+    }
     match lines::run::<HostRuntime>(rt.alloc(), &mut rt.stdin(), &mut rt.stdout()) {
         Some(()) => ExitCode::SUCCESS,
         None => ExitCode::FAILURE,

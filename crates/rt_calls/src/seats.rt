@@ -1,6 +1,6 @@
 // A seat's calls on the locked value of the client that was opened last, and what its ring gives.
 use crate::clients::{Seats, refused};
-use crate::deliveries::{deliver, hand_out};
+use crate::deliveries::{deliver, for_each, hand_out};
 use crate::fault::{Fault, Told};
 use crate::line::{Line, Word};
 use crate::tell::tell_next;
@@ -89,6 +89,7 @@ fn call_seat<R: Wait>(
         "settle" => tell(client.shared.get_mut().settle(seat).map(|()| None), line),
         "hand_out" => hand_out(seat, line),
         "deliver" => deliver::<R>(client, seat, line),
+        "for_each" => for_each::<R>(client, seat, line),
         _ => Err(Fault::NoSuchCall),
     }
 }

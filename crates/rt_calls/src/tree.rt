@@ -87,6 +87,18 @@ fn children(line: &mut Line) -> Told {
     }
 }
 
+// The object of two children by their names.
+fn named(line: &mut Line) -> Told {
+    let (first, left) = (line.word(), line.read());
+    let (second, right) = (line.word(), line.read());
+    let (left, right) = line.given((left, right))?;
+    let children = vec![in line.alloc; (line.at(first), left), (line.at(second), right)]?;
+    match Tree::object_of(line.alloc, children) {
+        Ok(tree) => Ok(line.say_tree(&tree)),
+        Err(error) => refused(error, line),
+    }
+}
+
 // Puts a tree at a path.
 fn put(tree: &mut Tree, line: &mut Line) -> Told {
     let entry = line.entry();
@@ -138,6 +150,23 @@ fn get(tree: &Tree, line: &mut Line) -> Told {
     Ok(())
 }
 
+// What stands at a path of names, which may be none: the value of a leaf, whether there is one, the levels
+// of the part, and those of the child of that name.
+fn look(tree: &Tree, line: &mut Line) {
+    let word = line.word();
+    let path = line.at(word);
+    let values = (
+        tree.truth_at(path),
+        tree.number_at(path),
+        tree.text_at(path),
+    );
+    let part = tree.part_at(path).map(|part| part.levels());
+    let child = tree.child(path).map(|child| child.levels());
+    let is_leaf = tree.leaf_at(path).is_some();
+    line.debug(values);
+    line.debug((is_leaf, part, child));
+}
+
 // Calls of a tree that puts change, and of a copy that was made of it.
 pub(crate) fn call(tree: &mut Tree, copy: &mut Tree, line: &mut Line) -> Told {
     match line.next() {
@@ -146,11 +175,13 @@ pub(crate) fn call(tree: &mut Tree, copy: &mut Tree, line: &mut Line) -> Told {
         "leaf" => leaf(line),
         "read" => read(line),
         "children" => children(line),
+        "named" => named(line),
         "put" => put(tree, line),
         "put_in_place" => put_in_place(tree, line),
         "double" => double(tree, line),
         "copy" => Ok(keep(copy, tree, line)),
         "get" => get(tree, line),
+        "look" => Ok(look(tree, line)),
         "copied" => get(copy, line),
         _ => Err(Fault::NoSuchCall),
     }

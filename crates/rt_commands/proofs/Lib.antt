@@ -1,1 +1,6 @@
+mod Asking
 mod Clients
+mod Flags
+mod Hosts
+mod Numbers
+mod Several

@@ -3,12 +3,12 @@ ghost use Rattle.std.specs.Prelude.{◌≡◌, ◌+◌, ◌<◌, ◌≤◌, ◌^
 ghost use Rattle.std.specs.Io.KnownBytes.{IsAtEnd};
 ghost use Rattle.rt_input.specs.Faults.{counts};
 ghost use Rattle.rt_input.specs.Lines.{lines_of};
-ghost use Rattle.rt_drive.specs.Run.{bad_among};
+ghost use Rattle.rt_connect.specs.Run.{bad_among};
 ghost use Rattle.rt_commands.specs.Connections.{EndsBy};
 ghost use Rattle.rt_commands.specs.Errors.{connect_code, connect_name};
 
 use rt_client::{Client, ClientError, Seat};
-use rt_drive::drive_logged;
+use rt_connect::drive_logged;
 use rt_input::{ConsoleError, Drain, Log, Source};
 use rt_world::Limits;
 use std::alloc::Global;
@@ -105,7 +105,9 @@ pub fn connect<R: Net + Wait + RandomSource, I: Source, D: Drain, L: Log>(
         Ok(stream) => stream,
         Err(why) => return Err(ConnectFault::NotConnected { port, why }),
     };
-    match drive_logged(rt, alloc, &client, seats, rt, stream, reader, writer, log) {
+    match drive_logged(
+        rt, alloc, &client, seats, rt, port, stream, reader, writer, log,
+    ) {
         Ok(bad_lines) => Ok(bad_lines),
         Err(why) => Err(ConnectFault::Ended(why)),
     }

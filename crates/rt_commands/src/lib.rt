@@ -9,19 +9,23 @@
 //! let Asked { work, verbose } = read_words(alloc, &words)?;       // what a command line asks for
 //! ```
 //!
-//! What stands below is handed on: the words of a command line ([`read_words`]), a script
-//! ([`run_script`]), the peer and how it serves a stream ([`Peer`], [`serve_stream`]), and how lines drive
-//! a client ([`drive`]).
+//! The words are read by `clap`, and a tree or a path among them by `rt_tree`.
+//!
+//! What stands below is handed on: a script ([`run_script`]), the peer and how it serves a stream ([`Peer`],
+//! [`serve_stream`]), and how lines drive a client ([`drive`]).
 #![tactic(auto)]
 
+mod commands;
 mod connecting;
 mod serving;
+mod words;
 
+pub use commands::PROGRAM;
 pub use connecting::{ConnectFault, connect};
-pub use rt_drive::{drive, drive_logged};
+pub use rt_connect::{drive, drive_logged};
 pub use rt_input::{ConsoleError, Drain, Source};
 pub use rt_peer::Peer;
 pub use rt_script::{run_logged, run_script};
 pub use rt_serve::serve_stream;
-pub use rt_words::{Asked, PROGRAM, Serving, Work, explain, read_words};
 pub use serving::{ServeFault, Streams, Visitors, serve};
+pub use words::{Asked, Serving, Work, explain, read_words};

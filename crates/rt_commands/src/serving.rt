@@ -10,15 +10,17 @@ ghost use Rattle.rt_commands.specs.Connections.{Fails, listed, NamesPort, Serves
 ghost use Rattle.rt_commands.specs.Errors.{serve_code, serve_name};
 ghost use Rattle.rt_commands.specs.declared.serving.ServeFault.TheVariants.{NoMemory};
 
+use crate::words::Serving;
 use rt_input::Log;
 use rt_peer::Peer;
 use rt_serve::{ServeError, serve_logged};
+use rt_socket::{HANDSHAKE_MS, SILENCE_MS};
 use rt_tree::{Path, Tree};
-use rt_words::Serving;
 use std::alloc::{AllocError, AllocFailed, Global};
 use std::fmt::Write;
-use std::net::{Ipv4Addr, Net, OpenListener, TcpListener};
+use std::net::{Ipv4Addr, Net, OpenListener, OpenStream, TcpListener};
 use std::sync::Wait;
+use std::time::Duration;
 use std::{fmt, io};
 use thiserror::Error;
 
@@ -103,7 +105,15 @@ pub trait Streams {
         ensures { Fails result (has_failed self.old) (has_failed self.new) };
 }
 
-/// The clients that connect to a listener.
+// From here on a read of the stream is given up after as long as a handshake may take, and a write after as
+// long as the other side may be silent, where the system knows of such limits.
+fn limit_waits<S: OpenStream>(stream: &S) {
+    let _reads = stream.set_read_timeout(Some(Duration::from_millis(HANDSHAKE_MS)));
+    let _writes = stream.set_write_timeout(Some(Duration::from_millis(SILENCE_MS)));
+}
+
+/// The clients that connect to a listener. One that says nothing for `HANDSHAKE_MS` of `rt_socket` shakes no
+/// hands, and one that takes nothing for its `SILENCE_MS` is sent nothing more.
 #[derive(Drop)]
 pub struct Visitors<L: OpenListener + Drop> {
     listener: L,
@@ -112,7 +122,7 @@ pub struct Visitors<L: OpenListener + Drop> {
 
 impl<L: OpenListener + Drop> Visitors<L>
 where
-    L::Stream: io::Read + io::Write + Drop,
+    L::Stream: io::Read + io::Write + OpenStream + Drop,
 {
     /// No connection has come yet.
     pub fn new(listener: L) -> Visitors<L>
@@ -127,7 +137,7 @@ where
 
 impl<L: OpenListener + Drop> Streams for Visitors<L>
 where
-    L::Stream: io::Read + io::Write + Drop,
+    L::Stream: io::Read + io::Write + OpenStream + Drop,
 {
     type Stream = L::Stream;
 
@@ -135,7 +145,10 @@ where
 
     fn next_stream(&mut self) -> io::Result<L::Stream> {
         match self.listener.accept() {
-            Ok((stream, _)) => Ok(stream),
+            Ok((stream, _)) => {
+                limit_waits(&stream);
+                Ok(stream)
+            }
             Err(why) => {
                 self.has_failed = true;
                 Err(why)

@@ -3,7 +3,9 @@
 #![tactic(auto)]
 
 mod arguments;
+mod shown;
 
+use crate::shown::{Shape, Showing};
 use rt_commands::{
     Asked, ConnectFault, PROGRAM, Serving, Work, connect, explain, read_words, run_logged, serve,
 };
@@ -128,9 +130,9 @@ fn status_of_connection<R: Net + Wait + RandomSource, L: Log>(
 fn status_of_watching<
     R: Net + Wait + Threads + Clock + RandomSource + Clone + Drop + Send + 'static,
     L: Log,
->(rt: &R, system: &HostRuntime, watching: Watching, log: &mut L) -> u8 {
+>(rt: &R, system: &HostRuntime, watching: Watching, shape: Shape, log: &mut L) -> u8 {
     let reader = Reading::new(system.stdin());
-    let mut writer = Writing::new(system.stdout());
+    let mut writer = Writing::new(Showing::new(system.alloc(), system.stdout(), shape));
     let (watched, reader) = watch(rt, system.alloc(), watching, reader, &mut writer, log);
     match watched {
         Ok(0) => 0,
@@ -158,10 +160,23 @@ fn status_of_work<
             level,
         } => status_of_emulating(rt, system, emulating, ends_with_input, level),
         Work::Connect { port } => status_of_connection(rt, system, port, log),
-        Work::Watch { port, idle } => {
-            let address = SocketAddr::from((Ipv4Addr::LOCALHOST, port));
-            let idle_ms = idle.map(u64::from);
-            status_of_watching(rt, system, Watching { address, idle_ms }, log)
+        Work::Watch {
+            port,
+            idle,
+            is_once,
+            changes_only,
+            width,
+        } => {
+            let watching = Watching {
+                address: SocketAddr::from((Ipv4Addr::LOCALHOST, port)),
+                idle_ms: idle.map(u64::from),
+                is_once,
+            };
+            let shape = Shape {
+                changes_only,
+                width,
+            };
+            status_of_watching(rt, system, watching, shape, log)
         }
     }
 }

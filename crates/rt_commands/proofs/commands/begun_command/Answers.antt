@@ -1,0 +1,27 @@
+use Rattle.std.proofs.Common.{rules, ◌≡◌, ap, ap₂, codes, ◌∙◌}
+use Rattle.clap.specs.Simple.{app_of_fields}
+use Rattle.clap.specs.Words.{app_of, new_app, with_rule}
+use Rattle.rt_commands.proofs.commands.begun_command.Goals as goal
+
+pub returns-clause-app : goal.returns-clause-app
+returns-clause-app c =
+    let new : app_of c.after_help.result ≡ new_app (codes "emulate") =
+    ap app_of_fields c.after_help.ensures ∙ ap app_of_fields c.about.ensures ∙ c.new.ensures.app in
+    c.in_ok-command.ensures.shape (search rules)
+    ∙ ap₂ with_rule
+    (c.in_ok-arg-6.ensures.shape (search rules)
+    ∙ ap₂ with_rule
+    (c.in_ok-arg-5.ensures.shape (search rules)
+    ∙ ap₂ with_rule
+    (c.in_ok-arg-4.ensures.shape (search rules)
+    ∙ ap₂ with_rule
+    (c.in_ok-arg-3.ensures.shape (search rules)
+    ∙ ap₂ with_rule
+    (c.in_ok-arg-2.ensures.shape (search rules)
+    ∙ ap₂ with_rule (c.in_ok-arg.ensures.shape (search rules) ∙ ap₂ with_rule new c.port_arg.ensures.rule)
+    c.text_arg.ensures.rule)
+    c.text_arg-2.ensures.rule)
+    c.text_arg-3.ensures.rule)
+    c.text_arg-4.ensures.rule)
+    c.flag_arg.ensures.rule)
+    c.texts_arg.ensures.rule

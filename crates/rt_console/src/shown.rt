@@ -1,0 +1,189 @@
+// What is printed of a client that is watched, as a person wants it: without whole values, or with long ones
+// cut.
+ghost use Rattle.std.specs.Prelude.{◌≡◌, ◌≤◌, ◌++◌, ◌∷◌, [], None, false, true, length, option_map};
+ghost use Rattle.std.specs.Prelude.{IfSome, OnOk};
+ghost use Rattle.rt_console.specs.Shown.{value_behind, value_in, value_of};
+
+use std::alloc::{AllocError, Global};
+use std::io;
+use std::io::{ErrorKind, Write};
+
+// What stands before a whole value, behind a listener's number.
+const VALUE: [u8; 7] = *b" value ";
+
+// How many bytes may be said behind a value that is cut.
+const MOST_SAID: usize = 32;
+
+/// How printed lines are shown.
+#[derive(Clone, Copy)]
+pub(crate) struct Shape {
+    /// Whether lines with a whole value are left out.
+    pub(crate) changes_only: bool,
+    /// Such a line is cut where it has more than so many bytes.
+    pub(crate) width: Option<u16>,
+}
+
+impl Shape {
+    // Whether all lines are shown whole.
+    fn is_whole(self) -> bool
+        ensures { result ≡ true → (self.changes_only ≡ false) × (self.width ≡ None) }
+    {
+        match self.width {
+            None => !self.changes_only,
+            Some(_) => false,
+        }
+    }
+}
+
+// What stands behind the word of a whole value, where that is what begins there.
+fn value_of(rest: &[u8]) -> Option<&[u8]>
+    ensures { option_map (λ value. value.now) result ≡ value_of rest.now }
+{
+    if rest.starts_with(&VALUE) {
+        Some(&rest[7..])
+    } else {
+        None
+    }
+}
+
+// The whole value of a line, by what stands behind the letter of its listener.
+fn value_behind(rest: &[u8]) -> Option<&[u8]>
+    ensures { option_map (λ value. value.now) result ≡ value_behind rest.now }
+{
+    for at in 0..rest.len() {
+        if !rest[at].is_ascii_digit() {
+            return value_of(&rest[at..]);
+        }
+    }
+    None
+}
+
+// The whole value of a line, where it has one: `L<n> value <value>`.
+fn value_in(line: &[u8]) -> Option<&[u8]>
+    ensures { option_map (λ value. value.now) result ≡ value_in line.now }
+{
+    match line.split_first() {
+        Some((b'L', rest)) => value_behind(rest),
+        Some(_) | None => None,
+    }
+}
+
+// How many bytes of a line are kept, so many at most, so that no character is cut through.
+fn whole_characters(line: &[u8], most: usize) -> usize
+    ensures { result ≤ most }
+{
+    for back in 0..4 {
+        let kept = most.saturating_sub(back);
+        if line.len() <= kept || line[kept] & 0xC0 != 0x80 {
+            return kept;
+        }
+    }
+    most
+}
+
+// Shows the beginning of a line, and how many bytes its value has.
+fn show_cut(
+    shown: &mut Vec<u8>,
+    alloc: Global,
+    line: &[u8],
+    width: u16,
+    len: usize,
+) -> Result<(), AllocError> {
+    let room = usize::from(width).saturating_sub(MOST_SAID);
+    let kept = whole_characters(line, room.min(line.len()));
+    shown.extend_from_slice(&line[..kept])?;
+    let said = format!(in alloc; " .. ({len} bytes)\n")?;
+    shown.extend_from_slice(said.as_str().as_bytes())
+}
+
+// Shows a line whole.
+fn show_whole(shown: &mut Vec<u8>, line: &[u8]) -> Result<(), AllocError>
+    ensures { OnOk result (shown.new.items ≡ shown.old.items ++ (line.now ++ 10 ∷ [])) }
+{
+    shown.extend_from_slice(line)?;
+    shown.push(b'\n')?;
+    Ok(())
+}
+
+// Shows a line, which has no line feed.
+fn show_line(
+    shown: &mut Vec<u8>,
+    alloc: Global,
+    shape: Shape,
+    line: &[u8],
+) -> Result<(), AllocError>
+    ensures whole { OnOk result (value_in line.now ≡ None
+        → shown.new.items ≡ shown.old.items ++ (line.now ++ 10 ∷ [])) }
+    ensures left_out { IfSome (value_in line.now) (λ value.
+        shape.changes_only ≡ true → shown.new ≡ shown.old) }
+{
+    let Some(value) = value_in(line) else {
+        return show_whole(shown, line);
+    };
+    if shape.changes_only {
+        return Ok(());
+    }
+    match shape.width {
+        Some(width) if usize::from(width) < line.len() => {
+            show_cut(shown, alloc, line, width, value.len())
+        }
+        Some(_) | None => show_whole(shown, line),
+    }
+}
+
+// Shows lines, and what stands behind the last line feed as it is.
+fn show_lines(
+    shown: &mut Vec<u8>,
+    alloc: Global,
+    shape: Shape,
+    lines: &[u8],
+) -> Result<(), AllocError> {
+    let mut begun = 0;
+    for at in 0..lines.len() {
+        if lines[at] == b'\n' {
+            show_line(shown, alloc, shape, &lines[begun..at])?;
+            begun = at + 1;
+        }
+    }
+    shown.extend_from_slice(&lines[begun..])
+}
+
+/// A writer that is given lines whole, and shows them.
+#[derive(Drop)]
+pub(crate) struct Showing<W: Write + Drop> {
+    alloc: Global,
+    writer: W,
+    shape: Shape,
+    shown: Vec<u8>,
+}
+
+impl<W: Write + Drop> Showing<W> {
+    pub(crate) fn new(alloc: Global, writer: W, shape: Shape) -> Showing<W> {
+        Showing {
+            alloc,
+            writer,
+            shape,
+            shown: Vec::new(alloc),
+        }
+    }
+}
+
+impl<W: Write + Drop> Write for Showing<W> {
+    ghost contents = { λ _. None };
+
+    fn write(&mut self, buf: &[u8]) -> io::Result<usize> {
+        if self.shape.is_whole() {
+            return self.writer.write(buf);
+        }
+        self.shown.clear();
+        if show_lines(&mut self.shown, self.alloc, self.shape, buf).is_err() {
+            return Err(io::Error::from(ErrorKind::OutOfMemory));
+        }
+        self.writer.write_all(&self.shown)?;
+        Ok(buf.len())
+    }
+
+    fn flush(&mut self) -> io::Result<()> {
+        self.writer.flush()
+    }
+}

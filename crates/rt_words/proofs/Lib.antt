@@ -1,5 +1,0 @@
-mod Asking
-mod Flags
-mod Hosts
-mod Numbers
-mod Several

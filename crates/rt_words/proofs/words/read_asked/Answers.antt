@@ -1,6 +1,0 @@
-use Rattle.rt_words.proofs.Asking.{passed_on}
-use Rattle.rt_words.proofs.words.read_asked.Goals as goal
-
-pub returns-in_err-work-clause-work : goal.returns-in_err-work-clause-work
-returns-in_err-work-clause-work c =
-    passed_on _ c.in_err-work.field-0.0 c.from_residual.result c.from_residual.ensures.1 c.in_err-work.ensures

@@ -1,5 +1,0 @@
-use Rattle.rt_words.proofs.Asking.{path_read}
-use Rattle.rt_words.proofs.words.read_path.Goals as goal
-
-pub returns-in-Ok : goal.returns-in-Ok
-returns-in-Ok c = path_read c.args.text.now c.in-Ok.path c.in-Ok.ensures.ok c.in-Ok.ensures.refused
