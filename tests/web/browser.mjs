@@ -41,6 +41,9 @@ export class Browser {
             const text = params.args.map(it => it.value ?? it.description ?? "").join(" ");
             (params.type === "error" ? this.faults : this.said).push(text);
         }
+        // What the browser itself says, but for a connection that does not come about: the emulate is killed in these tests.
+        if (method === "Log.entryAdded" && params.entry.level === "error" && !/^WebSocket connection to /.test(params.entry.text))
+            this.faults.push(`${params.entry.text} ${params.entry.url ?? ""}`);
         if (method === "Runtime.exceptionThrown") this.faults.push(params.exceptionDetails.exception?.description ?? params.exceptionDetails.text);
     }
     send(method, params = {}, sessionId = undefined) {
@@ -52,7 +55,7 @@ export class Browser {
         const { targetId } = await this.send("Target.createTarget", { url: "about:blank" });
         const { sessionId } = await this.send("Target.attachToTarget", { targetId, flatten: true });
         const page = new Page(this, sessionId, targetId);
-        for (const it of ["Page", "Runtime"]) await page.send(it + ".enable");
+        for (const it of ["Page", "Runtime", "Log"]) await page.send(it + ".enable");
         await page.send("Emulation.setFocusEmulationEnabled", { enabled: true });
         await page.send("Page.navigate", { url });
         await page.until("document.readyState === 'complete' && location.href !== 'about:blank'");

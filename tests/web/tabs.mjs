@@ -25,6 +25,7 @@ const TYPES = { html: "text/html", js: "text/javascript", wasm: "application/was
 const here = new URL("./", import.meta.url);
 const pages = createServer((request, answer) => {
     const { pathname } = new URL(request.url, "http://x/"), file = pathname.endsWith("/") ? pathname + "index.html" : pathname;
+    if (file === "/favicon.ico") return answer.writeHead(204).end(); // a browser asks for it by itself
     const ours = /^\/(?:js|node_modules\/kaltewi)\/(.*)/.exec(file), at = ours ? new URL(ours[1], PACKAGE) : new URL(file.slice(1), here);
     try {
         const text = file === "/readme.html" ? chatOfReadme() : read(at);

@@ -35,10 +35,10 @@ async function changes(page, node) {
     await shows(page, "▾ page {2}", "▾ a {2}", "x 2", 'y "t"', "b true");
 }
 
-async function edits(page, node) {
+async function edits(page, other, node) {
     await presses(page, "x", "edit");
     await page.type("5\n");
-    await shows(page, "▾ page {2}", "▾ a {2}", "x 5", 'y "t"', "b true");
+    for (const it of [page, other]) await shows(it, "▾ page {2}", "▾ a {2}", "x 5", 'y "t"', "b true");
     assert.equal((await get(ref(node, "page/a/x"))).val(), 5);
     await presses(page, "b", "edit");
     await page.type("1.5\n");
@@ -53,9 +53,10 @@ async function edits(page, node) {
     await page.press("Tab");
     await page.type("of <i>hand</i>\n");
     await shows(page, "▾ page {2}", "▾ a {2}", "x 5", 'y "t"', "▾ b {1}", 'k "of <i>hand</i>"');
+    await shows(other, "▾ page {2}", "▾ a {2}", "x 5", 'y "t"', "▸ b {1}");
     await goes(page, button("k", "remove"));
     await page.press("Enter");
-    await shows(page, "▾ page {1}", "▾ a {2}", "x 5", 'y "t"');
+    for (const it of [page, other]) await shows(it, "▾ page {1}", "▾ a {2}", "x 5", 'y "t"');
     await goes(page, "it.classList.contains('key') && it.textContent === '▾ a'");
     await page.press("Enter");
     await shows(page, "▾ page {1}", "▸ a {2}");
@@ -120,39 +121,72 @@ async function files(page, node) {
     await says(page, "SyntaxError");
 }
 
-async function looks(page, shots) {
-    for (const width of [400, 1400])
+// The emulate is killed, a value is edited meanwhile, and it is started again: what was written is there, also behind a reload.
+async function restarts(page, node, restart) {
+    await shows(page, "▾ page {1}", "q 0");
+    await restart(async () => {
+        await page.until("document.getElementById('up').textContent === 'no connection'");
+        await presses(page, "q", "edit");
+        await page.type("1\n");
+        await shows(page, "▾ page {1}", "q 1");
+    });
+    await page.until("document.getElementById('up').textContent === 'connected'");
+    await until("the emulate has what was written", async () => (await get(ref(node, "page/q"))).val() === 1);
+    await page.reload();
+    await shows(page, "▾ page {1}", "q 1");
+}
+
+// What the pictures show.
+const HOUSE = {
+    members: { ann: { name: "Ann", here: true }, bob: { name: "Bob", here: false } },
+    messages: { m1: { by: "ann", text: "the tea is ready" } },
+    shopping: { apples: 6, bread: 1, milk: 2 },
+    open: true,
+};
+async function looks(page, node, shots) {
+    await page.until(`${ROWS}.includes("milk 2")`);
+    await set(ref(node, "house/members/bob/here"), true);
+    await update(ref(node, "house"), { "shopping/bread": null, "messages/m2": { by: "bob", text: "on my way" } });
+    await page.until(`${ROWS}.includes("on my way")`);
+    let milk = 2;
+    for (const [width, height] of [[400, 760], [1400, 520]])
         for (const isDark of [false, true]) {
-            await page.look(width, 500, isDark);
+            await page.look(width, height, isDark);
+            await set(ref(node, "house/shopping/milk"), ++milk);
+            await page.until(`${ROWS}.includes("milk ${milk}")`);
+            if (shots) await page.shot(`${shots}/tree-${width}-${isDark ? "dark" : "light"}.png`);
             const [wide, color] = await page.run("[document.documentElement.scrollWidth, getComputedStyle(document.body).color]");
             assert.ok(wide <= width, `${wide} of ${width}`);
             assert.equal(color, isDark ? "rgb(255, 255, 255)" : "rgb(0, 0, 0)");
-            if (shots) await page.shot(`${shots}/tree-${width}-${isDark ? "dark" : "light"}.png`);
+            const high = await page.run("[...document.querySelectorAll('#tree .row')].map(it => it.offsetHeight)");
+            assert.ok(Math.max(...high) < 2 * Math.min(...high), "each row is one line");
         }
 }
 
 export async function tree({ browser, url, node, restart, ok, shots }) {
     await set(ref(node, "page"), { a: { x: 1, y: "t" }, b: true });
-    const page = await browser.page(`${url}&path=page`);
+    const open = path => browser.page(`${url}&path=${path}`), [page, other] = [await open("page"), await open("page")];
     await changes(page, node);
     ok("bindings/js/examples/tree: what changes is shown, lit and told");
-    await edits(page, node);
-    ok("bindings/js/examples/tree: values are edited, added, removed and refused, by the keyboard alone");
+    await edits(page, other, node);
+    await other.close();
+    ok("bindings/js/examples/tree: values are edited, added, removed and refused, by the keyboard alone, and another tab shows them");
     await places(page, node);
     await page.close();
     ok("bindings/js/examples/tree: a leaf, nothing, and a path that is denied");
     await set(ref(node, "page"), { q: 0 });
-    const again = await browser.page(`${url}&path=page`);
-    await shows(again, "▾ page {1}", "q 0");
-    await restart(() => again.until("document.getElementById('up').textContent === 'no connection'"));
-    await again.until("document.getElementById('up').textContent === 'connected'");
-    await again.reload();
+    const again = await open("page");
+    await restarts(again, node, restart);
+    ok("bindings/js/examples/tree: an emulate that is killed and started again, and a reload");
     await quick(again, node);
-    ok("bindings/js/examples/tree: a thousand quick changes, behind a new emulate and a reload");
+    ok("bindings/js/examples/tree: a thousand quick changes end with the emulate's tree on the page");
     await files(again, node);
-    ok("bindings/js/examples/tree: an export and an import");
-    await looks(again, shots);
-    ok("bindings/js/examples/tree: 400 and 1,400 pixels wide, dark and light");
     await again.close();
+    ok("bindings/js/examples/tree: an export and an import");
+    await set(ref(node, "house"), HOUSE);
+    const house = await open("house");
+    await looks(house, node, shots);
+    await house.close();
+    ok("bindings/js/examples/tree: 400 and 1,400 pixels wide, dark and light");
     goOffline(node);
 }
