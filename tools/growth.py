@@ -133,11 +133,16 @@ def above(size):
     yield from (["listen", 1, "/list", []], ["data", size + 1, "/list", {"first": 0}], ["unlisten", 1, size + 1])
 
 
+def between(low, high):
+    """The query of a range of keys."""
+    return [["orderByKey"], ["startAt", low], ["endAt", high]]
+
+
 def ranges(size):
     """Ranges of one path come, are pushed to, and end in an order by chance; none takes in another."""
     yield ["connected"]
     bounds = [(f"k{2 * number:06}", f"k{2 * number + 1:06}") for number in range(size)]
-    yield from (["listen", 1, "/list", [["orderByKey"], ["startAt", low], ["endAt", high]]] for low, high in bounds)
+    yield from (["listen", 1, "/list", between(low, high)] for low, high in bounds)
     yield from (["data", tag, "/list", {low: 0}] for tag, (low, _) in enumerate(bounds, 1))
     yield from (["data", tag, f"/list/{low}", 1] for tag, (low, _) in enumerate(bounds, 1))
     yield from (["unlisten", 1, number] for number in by_chance(size))
@@ -147,8 +152,26 @@ def nested(size):
     """Ranges of one path, each of which takes in all earlier ranges, come and end, the widest first."""
     yield ["connected"]
     bounds = [(f"k{size - number:06}", f"k{size + number:06}") for number in range(size)]
-    yield from (["listen", 1, "/list", [["orderByKey"], ["startAt", low], ["endAt", high]]] for low, high in bounds)
+    yield from (["listen", 1, "/list", between(low, high)] for low, high in bounds)
     yield from (["unlisten", 1, number] for number in range(size, 0, -1))
+
+
+def around(size):
+    """Ranges of one path come inside a wide one, which is pushed to, ends and comes once more; they end in an order by chance, and it ends last."""
+    wide = ["listen", 1, "/list", between("k", "l")]
+    yield from (["connected"], wide)
+    yield from (["listen", 1, "/list", between(f"{key}a", f"{key}b")] for key in keys(size))
+    yield from (["data", 1, "/list", {"k": 0}], ["unlisten", 1, 1], wide, ["data", size + 2, "/list", {"k": 1}])
+    yield from (["unlisten", 1, number + 1] for number in by_chance(size))
+    yield ["unlisten", 1, size + 2]
+
+
+def closed(size):
+    """Ranges of a seat lie around as many of another seat, get their windows of a plain listen that ends, and end at once."""
+    yield from listening(["/list"], {"l": 0})
+    yield from (["listen", 2, "/list", between(f"k{key}", f"m{key}")] for key in keys(size))
+    yield from (["listen", 3, "/list", between(f"l{key}a", f"l{key}b")] for key in keys(size))
+    yield from (["unlisten", 1, 1], ["close", 2])
 
 
 def below(size):
@@ -205,11 +228,11 @@ def heard(size):
 KINDS = {
     it.__name__: (it, power, sizes)
     for power, sizes, kinds in [
-        (1, (200, 1600), (entries, scattered, removals, parts, settled, overwritten, asked, window, above, runs)),
-        (1, (100, 800), (stops, heard)),
+        (1, (200, 1600), (entries, scattered, removals, parts, settled, overwritten, asked, window, above, runs, actions)),
+        (1, (100, 800), (stops, heard, around, closed)),
         (2, (250, 2000), (ends, equals)),
         (2, (100, 800), (revoked, compared)),
-        (2, (50, 400), (toggled, below, actions)),
+        (2, (50, 400), (toggled, below)),
         (2, (12, 96), (ranges, nested)),
     ]
     for it in kinds

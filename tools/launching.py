@@ -235,10 +235,18 @@ exec "$@"
 
 
 def terminal_runs(runs):
-    """At a terminal a program that takes lines is asked to say more, and rlwrap reads the lines if the terminal has a width."""
+    """At a terminal a program that takes lines is asked to say more. If the terminal has a width, `watch` is asked to keep to it, and rlwrap
+    reads the lines."""
     write(f"{runs.room}/bin/rlwrap", RLWRAP)
     os.chmod(f"{runs.room}/bin/rlwrap", 0o755)
-    cases = ("script", 80, "--verbose"), ("connect -v 8080", 80, "8080"), ("watch 8080", 80, "--verbose"), ("watch 8080", 0, "--verbose")
+    cases = (
+        ("script", 80, "--verbose"),
+        ("connect -v 8080", 80, "8080"),
+        ("watch 8080", 80, "80"),
+        ("watch 8080 --width 9", 80, "--verbose"),
+        ("watch 8080 --changes", 80, "--verbose"),
+        ("watch 8080", 0, "--verbose"),
+    )
     for words, width, last in cases:
         ours, theirs = pty.openpty()
         fcntl.ioctl(theirs, termios.TIOCSWINSZ, struct.pack("4H", 24, width, 0, 0))

@@ -17,16 +17,16 @@ from bodies import read, write
 
 PICTURE, PAGE = "docs/layers.svg", "docs/ARCHITECTURE.md"
 LAYERS = {
-    "values": "rt_map rt_tree rt_order rt_push rt_query rt_input rt_chain rt_links rt_store",
+    "values": "rt_map rt_tree rt_order rt_push rt_query rt_input rt_chain rt_nodes rt_store",
     "parts of a core": "rt_writes rt_cache rt_forms rt_cover rt_view",
-    "messages": "rt_wire",
+    "messages": "rt_wire rt_http",
     "core": "rt_world rt_parts rt_sync",
     "client": "rt_mail rt_client",
     "server": "rt_peer rt_hub",
     "sockets": "rt_socket rt_serve rt_link rt_journal rt_emulate",
-    "console": "rt_lines rt_script rt_drive rt_watch rt_words rt_commands rt_console",
+    "console": "rt_lines rt_script rt_connect rt_watch rt_commands rt_console",
     "other languages": "rt_foreign rt_ffi",
-    "door and tests": "kaltewi rt_tests rt_calls rt_stress",
+    "door and tests": "kaltewi rt_tests rt_calls",
 }  # lowest first
 LEFT, RIGHT, WIDE, ROW, BOX, PER_LETTER, GAP, TURN = 130, 850, 930, 44, 28, 7.4, 8, 22
 

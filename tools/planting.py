@@ -55,7 +55,7 @@ def tried(copy, crate, *words, script=b""):
 
 def are_told(copy, console):
     """Whether the seats of threads over one client are told in the copy what the console prints; nothing where it can't be run."""
-    ran, stress = tried(copy, "rt_stress", "--", *A_RUN), Stress(console)
+    ran, stress = tried(copy, "rt_calls", "--", *A_RUN), Stress(console)
     ended = ENDED.search(ran.stderr.decode(errors="replace"))
     stress.judge(ran.stdout.decode(errors="replace"))
     return ended[1] == "0" and not stress.wrong if ended else None

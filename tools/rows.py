@@ -71,7 +71,7 @@ def rows_part(copy, name):
 
 # The folders of tests/calls/ with the crates whose calls they make.
 CALLS_OF = {
-    "low": ("rt_map", "rt_tree", "rt_order", "rt_links", "rt_store"),
+    "low": ("rt_map", "rt_tree", "rt_order", "rt_nodes", "rt_store"),
     "mid": ("rt_query", "rt_writes", "rt_cache", "rt_forms", "rt_cover"),
     "high": ("rt_view", "rt_wire", "rt_world", "rt_parts", "rt_sync"),
     "mail": ("rt_mail",),

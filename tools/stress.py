@@ -1,4 +1,4 @@
-"""Threads over one client, judged from outside. The program rt_stress makes calls by chance on six seats of one client, with rings of 1 to
+"""Threads over one client, judged from outside. The program rt_calls makes calls by chance on six seats of one client, with rings of 1 to
 1,024 items, beside a thread that is the server; each step has a number that was taken under the lock. The console makes the same steps, in the
 order of these numbers, of a core that nothing shares. Each step has to be answered as there, and each seat has to be told what is printed
 there for it: all of it, item by item, and nothing else. What a seat that was not closed shows in the end is what `view` prints there.
@@ -175,7 +175,7 @@ class Stress:
 
 def stress_part(copy):
     """The programs as two compilers built them, judged by the console as one did."""
-    for program in builds_of(copy, "rt_stress"):
+    for program in builds_of(copy, "rt_calls"):
         clock, stress = Clock(), Stress(builds_of(copy, "rt_console")[0])
         stress.run(program, 1, RUNS, CALLS)
         name = f"{os.path.basename(program)}: {stress.steps} steps of threads over one client"
@@ -187,7 +187,7 @@ def main():
         print(__doc__.strip())
         sys.exit(2)
     wanted, first = int(sys.argv[1]), int(sys.argv[2]) if len(sys.argv) == 3 else 1
-    program, stress = f"{ROOT}/crates/rt_stress/out/rt_stress", Stress(f"{ROOT}/crates/rt_console/out/rt_console")
+    program, stress = f"{ROOT}/crates/rt_calls/out/rt_calls", Stress(f"{ROOT}/crates/rt_console/out/rt_console")
     while stress.steps < wanted and not stress.wrong:
         stress.run(program, first, RUNS, CALLS)
         first += RUNS

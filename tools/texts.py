@@ -18,7 +18,7 @@ from parts import ROOT, Clock, crates, part, some_of
 from proving import copied
 
 PROGRAMS_SHOWN = ("example_chat",)  # README.md shows a text of each
-APPLICATIONS = ("example_start", "example_todo", "example_rooms", "example_board", "example_game", "example_scores")
+APPLICATIONS = ("example_start", "example_notes", "example_todo", "example_rooms", "example_board", "example_game", "example_scores")
 ERRORS = {
     "TreeError": "rt_tree/src/error.rt",
     "QueryError": "rt_query/src/error.rt",
@@ -98,9 +98,10 @@ def wrong_of_guide(guide, sources, printed):
 
 
 def refusals_of(error, text, numbers):
-    """The refusals of an error by their names, each with its text: a number in the place of its name, and '..' in that of a value."""
+    """The refusals of an error by their names, each with its text: a number in the place of its name, and '..' in that of values."""
     found = re.findall(r'#\[error\("((?:[^"\\]|\\.)*)"[^\]]*\)\]\n    (\w+)', text)
-    return {f"{error}::{name}": re.sub(r"\{([^}]*)\}", lambda it: numbers.get(it[1], ".."), words) for words, name in found}
+    said = ((name, re.sub(r"\{([^}]*)\}", lambda it: numbers.get(it[1], ".."), words)) for words, name in found)
+    return {f"{error}::{name}": words.replace("....", "..") for name, words in said}
 
 
 def wrong_of_refusals(guide, refusals):

@@ -17,7 +17,7 @@ from parts import ROOT
 
 PICTURE = "docs/way.svg"
 BOXES = {
-    "call": ("a seat's call", 0, 0, "rt_link::Linked::set rt_client::Client::set"),
+    "call": ("a seat's call", 0, 0, "rt_link::Linked::ask rt_client::Client::set"),
     "ring": ("the seat's ring", 0, 2, "rt_mail::Lane::flush rt_mail::Inbox::next"),
     "request": ("request, pending write", 1, 0, "rt_parts::Requests::add rt_writes::Pending::add_apart"),
     "views": ("views of listeners", 1, 1, "rt_parts::Listeners::refresh rt_view::View::touch"),

@@ -60,6 +60,7 @@ class Live:
             it.bind(("127.0.0.1", 0))
             port = str(it.getsockname()[1])
         all_ = [Spoken(program, "emulate", port, "--until-eof", "--quiet")]
+        all_[0].port = port
         end = threading.Timer(SECONDS, lambda: [it.stop() for it in all_])
         end.start()
         try:
@@ -191,7 +192,40 @@ def chats_meet(emulator, _clients, _watches):
 
 
 CHATS = Live("chats in C and in Python hear each other", chats_meet)
+
+
+FETCH = "const [,url,body]=process.argv;fetch(url,{method:'PUT',body}).then(it=>it.text()).then(it=>process.stdout.write(it))"
+URLLIB = "import sys,urllib.request as it;print(end=it.urlopen(it.Request(sys.argv[1],sys.argv[2].encode(),method='PUT')).read().decode())"
+ASKERS = {
+    "curl": ["curl", "-s", "-X", "PUT", "{url}", "-d", "{body}"],
+    "curl, told to go on": ["curl", "-s", "-X", "PUT", "{url}", "-d", "{body}", "-H", "Expect: 100-continue"],
+    "curl, in chunks": ["curl", "-s", "-X", "PUT", "{url}", "-d", "{body}", "-H", "Transfer-Encoding: chunked"],
+    "Node's fetch": [CLIENTS["node-ws"][0], "-e", FETCH, "{url}", "{body}"],
+    "Python's urllib": [CLIENTS["python3-websockets"][0], "-c", URLLIB, "{url}", "{body}"],
+}
+
+
+def they_hear_of_http(emulator, clients, watches):
+    """What others write by plain HTTP, all hear; what a client writes, curl reads."""
+    all_listen(clients, watches)
+    at = f"http://localhost:{emulator.port}/a"
+    for number, (name, words) in enumerate(ASKERS.items(), 1):
+        given = [it.format(url=f"{at}/x.json", body=number) if "{" in it[:6] else it for it in words]
+        ran = subprocess.run(given, stdin=subprocess.DEVNULL, capture_output=True, text=True, timeout=SECONDS)
+        must(f"what {name} is answered", (ran.returncode, ran.stdout), (0, str(number)))
+        for client, it in clients.items():
+            it.hear(f"what {client} hears of {name}", data("/a/x", 1, number))
+        for watch in watches:
+            watch.hear(f"what a watch prints of {name}", f'L1 {"added" if number == 1 else "changed"} "x" {number} after none', f'L1 value {{"x":{number}}}')
+    first = next(iter(clients.values()))
+    first.say(put(1, "/a/x", "[1]"))
+    first.hear("what a client hears of its write", data("/a/x", 1, '{"0":1}'), ok(1))
+    read = subprocess.run(["curl", "-s", f"{at}.json?print=pretty"], stdin=subprocess.DEVNULL, capture_output=True, text=True, timeout=SECONDS)
+    must("what curl reads then", (read.returncode, json.loads(read.stdout)), (0, {"x": {"0": 1}}))
+
+
 CASES = [
+    Live("curl, fetch and urllib beside two libraries and two that watch", they_hear_of_http),
     Live("two libraries and two that watch see each other", they_see_each_other),
     Live("many writes by two libraries and two that watch", all_end_with_one_tree),
     CHATS,

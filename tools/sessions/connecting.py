@@ -81,9 +81,20 @@ def nobody_listens(program):
     return differs("connect, nobody listens", (ran.returncode, ran.stdout, ran.stderr), (1, b"", wanted))
 
 
-BAD_LINES = '["connected"]\n["connect"]\n\nhello\n\udcff\n["cover"]\n'
-BAD_OUT = "done\nbad line 2\nbad line 4\nbad line 5\nT none\n"
-BAD_TOLD = "kaltewi: line 2 has none of the forms\nkaltewi: line 4 is no JSON\nkaltewi: line 5 is no JSON\n"
+# one that begins with a byte order mark, one of no word, one of no form, two that are no JSON, one whose word is refused, two of another form
+BAD_LINES = '\ufeff["connected"]\n["connect"]\n\nhello\n\udcff\n["cover"]\n["set",1,"/a.b",1]\n["listen",1,"/a"]\n{"k":1}\n'
+BAD_OUT = "done\nbad line 2\nbad line 4\nbad line 5\nT none\nrefused tree 1 BadKey\nbad line 8\nbad line 9\n"
+WORDS_OF_LINES = (
+    "connected, disconnected, listen, unlisten, set, update, remove, onDisconnect, close, data, merge, parts, ok, no, revoke, server, view, cover, out and push"
+)
+BAD_TOLD = f"""kaltewi: line 1 begins with a byte order mark, which is passed over
+kaltewi: line 2 begins with none of the words {WORDS_OF_LINES}
+kaltewi: line 4 is no JSON
+kaltewi: line 5 is no JSON
+kaltewi: line 7 is refused: a key must have at least one byte, and no control character and none of . $ # [ ] /
+kaltewi: line 8 is no listen: ["listen",SEAT,PATH,[CALL,..]]
+kaltewi: line 9 is no array that begins with a word
+"""
 
 
 def bad_lines(program):

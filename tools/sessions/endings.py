@@ -146,6 +146,7 @@ BROKEN = f"{FAILED}WebSocket protocol error: "
 ends("a close", f'{CLOSED_IT} with code 1000: "bye"', frame(CLOSE, b"\x03\xe8bye"), answer=b"\x03\xe8bye")
 ends("a close without a code", f"{CLOSED_IT}, without a code", frame(CLOSE, b""), answer=b"")
 ends("a close in the midst of a message", f'{CLOSED_IT} with code 4000: ""', HALF, frame(CLOSE, b"\x0f\xa0"), answer=b"\x0f\xa0")
+ends("a close with 1014", f'{CLOSED_IT} with code 1002 or an unknown one: ""', frame(CLOSE, b"\x03\xf6"), answer=b"\x03\xeaProtocol violation")
 ends("no close", f"{FAILED}{RESET}")
 ends("no close, in the midst of a message", f"{FAILED}{RESET}", HALF)
 ends("no close, in the midst of a frame", f"{FAILED}{RESET}", UNREAD[:9])

@@ -110,6 +110,8 @@ class Server:
         fields = [line.partition(b":") for line in itertools.takewhile(bytes.strip, self.stream)]
         self.fields = {name.lower(): value.strip() for name, _, value in fields}
         self.key = self.fields.get(b"sec-websocket-key", b"")
+        if self.fields.get(b"host") != b"127.0.0.1:%d" % self.port:
+            raise OSError(f"the request names another host: {self.fields}")
 
     def answer(self, **changed):
         """The head that answers the request, with some of its fields changed or left out."""

@@ -2,6 +2,8 @@
 import socket
 import struct
 import subprocess
+import time
+from concurrent.futures import ThreadPoolExecutor
 
 from cutting import ended, served
 from frames import BINARY, CLOSE, CLOSED, LAST_PART, PING, SECONDS, TEXT, Client
@@ -43,6 +45,15 @@ def no_handshake(port):
         it.sendall(b"GET / HTTP/1.1\r\nHost: 127.0.0.1\r\n\r\n")
         yield "one who speaks no WebSocket", it.recv(1), b""
     socket.create_connection(("127.0.0.1", port), timeout=SECONDS).close()
+    yield from two_clients(port)
+
+
+def silent_one(port):
+    """One who connects and says nothing is left after 10 seconds, or some more on a busy machine, and the next one is served."""
+    begun = time.monotonic()
+    with socket.create_connection(("127.0.0.1", port), timeout=SECONDS) as it:
+        yield "one who says nothing", it.recv(1), b""
+        yield "the time that it has", 9.5 <= time.monotonic() - begun <= 25, True
     yield from two_clients(port)
 
 
@@ -152,6 +163,7 @@ TOLD = {
     two_clients: [BEGINS, CLOSED_IT, BEGINS, CLOSED_IT],
     denied_client: [BEGINS, "connection 1 ends: .."],
     no_handshake: ["a stream is no WebSocket: ..", "a stream is no WebSocket: ..", BEGINS, CLOSED_IT, BEGINS, CLOSED_IT],
+    silent_one: ["a stream is no WebSocket: IO error: timed out", BEGINS, CLOSED_IT, BEGINS, CLOSED_IT],
     strays: [
         BEGINS,
         "connection 1: a text is passed over: 1 NotJson",
@@ -200,6 +212,8 @@ def taken_port(program):
 
 def wrong_of(programs):
     """What is wrong with these builds of the program, and how many connections were made."""
+    pool = ThreadPoolExecutor(len(programs))
+    silent = [pool.submit(session, program, 2, [], silent_one) for program in programs]
     wrong = []
     for program in programs:
         wrong.append(session(program, 2, [], two_clients))
@@ -210,4 +224,5 @@ def wrong_of(programs):
         wrong.append(session(program, 2, [], versions))
         wrong.append(session(program, len(BROKEN), [], breaks))
         wrong.append(taken_port(program))
-    return [it for it in wrong if it], (10 + len(OTHERS) + len(OWN) + len(BROKEN)) * len(programs)
+    wrong += [it.result() for it in silent]
+    return [it for it in wrong if it], (13 + len(OTHERS) + len(OWN) + len(BROKEN)) * len(programs)

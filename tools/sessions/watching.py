@@ -57,6 +57,23 @@ class Watch:
         finally:
             ends.cancel()
 
+    def line_of(self, stream):
+        """The next line of one of its streams."""
+        ends = threading.Timer(SECONDS, self.ran.kill)
+        ends.start()
+        try:
+            return stream.readline().decode()
+        finally:
+            ends.cancel()
+
+    def reads(self):
+        """The next line that is printed."""
+        return self.line_of(self.ran.stdout)
+
+    def tells(self):
+        """The next line on its standard error."""
+        return self.line_of(self.ran.stderr)
+
     def end(self):
         """Ends its input."""
         try:
@@ -220,7 +237,12 @@ def an_idle_one_sleeps(program):
 
 ODD_LINES = '["read",1]\n\nhello\n["connected"]\n["set",9,"/a",1]\n["set",1,"/a",1.5]\n["cover"]\n["close",2]\n["set",2,"/a",1]\n'
 ODD_OUT = "bad line 1\nbad line 3\nbad line 4\nrefused client 2 WrongSeat\nrefused tree 4 NotWhole\nT none\ndone\nrefused client 2 WrongSeat\n"
-ODD_TOLD = "kaltewi: line 1 has none of the forms\nkaltewi: line 3 is no JSON\nkaltewi: line 4 has none of the forms\n"
+CONNECTED = """kaltewi: connected: type a line such as ["listen",1,"/a",[]]; 'kaltewi watch --help' has all forms; Ctrl-D ends the lines, and Ctrl-C the run\n"""
+ENDED = "kaltewi: the lines have ended: it goes on until the connection ends or, with --idle, nothing was printed for so long; Ctrl-C ends it at once\n"
+AGAIN = "kaltewi: the lines go on, and it connects again: in a second, and then less and less often, at least each 30 seconds\n"
+NO_WORD = "begins with none of the words listen, unlisten, set, update, remove, onDisconnect, close, cover, view and push\n"
+NOT_WHOLE = "is refused: a number must be whole, from -9007199254740991 to 9007199254740991\n"
+ODD_TOLD = f"{CONNECTED}kaltewi: line 1 {NO_WORD}kaltewi: line 3 is no JSON\nkaltewi: line 4 {NO_WORD}kaltewi: line 6 {NOT_WHOLE}{ENDED}"
 
 
 def lines_are_told(program):
@@ -237,6 +259,7 @@ def a_server_is_heard(program):
     with Watch(program, server.port, "-v", lines=LISTENS) as one:
         try:
             server.welcome()
+            must("what is told of the connection", one.tells(), CONNECTED)
             must("what the client sends", server.hear_all(2), [HELLO, listen("/a", 1)])
             server.send(text("{}"), frame(BINARY, "x"), accepted(7), pushed("/a", 1, {"x": 1}), frame(PING, "hi"))
             must("what answers a ping", server.hear()[1], b"hi")
@@ -245,8 +268,9 @@ def a_server_is_heard(program):
             one.type('["set",1,"/a/x",2]\n')
             must("a write", server.hear(), wrote(1, "/a/x", 2))
             one.prints("a write", 'done 1\nL1 changed "x" 2 after none\nL1 value {"x":2}\n')
-            server.send(frame(CLOSE, b"\x03\xe9bye"))
             one.end()
+            must("what is told of the end of the lines", one.tells(), ENDED)
+            server.send(frame(CLOSE, b"\x03\xe9bye"))
             must("what answers a close", server.hear(), (CLOSE, b"\x03\xe9bye"))
             why = "kaltewi: the server closed the connection with code 1001: \"bye\"\n"
             must("how it ends", one.ended(), (0, "disconnected\n", why))
@@ -273,6 +297,114 @@ def no_connection(program):
     with Watch(program, port) as one:
         said = f"kaltewi: 127.0.0.1:{port}: no connection can be made: Connection refused (os error 111)\n"
         must("how it ends where nobody listens", one.ended(), (1, "", said))
+
+
+def a_stream_fails_first(program):
+    """A stream that is closed or reset before the handshake is done is no connection, and lines go on."""
+    for what in ("closed", "reset"):
+        server = Server()
+        with Watch(program, server.port, "--once", lines=LISTENS) as one:
+            try:
+                stream = server.listener.accept()[0]
+                if what == "reset":
+                    stream.setsockopt(socket.SOL_SOCKET, socket.SO_LINGER, struct.pack("ii", 1, 0))
+                stream.close()
+                one.prints(f"a {what} stream, and a line then", "disconnected\ndone 1\n")
+                one.end()
+                must(f"how it ends behind a {what} stream", one.ended(), (0, "", ""))
+            finally:
+                server.close()
+
+
+def it_connects_again(program):
+    """Behind the end of its connection it connects again, and sends its listens and the requests without an answer; with --once it does not."""
+    server = Server()
+    with Watch(program, server.port, "-v", lines=LISTENS) as one:
+        try:
+            server.welcome()
+            must("what is told of the connection", one.tells(), CONNECTED)
+            must("what the client sends", server.hear_all(2), [HELLO, listen("/a", 1)])
+            server.send(pushed("/a", 1, {"y": 1}))
+            one.prints("a listen", 'done 1\nL1 added "y" 1 after none\nL1 value {"y":1}\n')
+            server.send(frame(CLOSE, b"\x03\xe9bye"))
+            one.prints("the end of the connection", "disconnected\n")
+            must("what is told of the end", one.tells(), "kaltewi: the server closed the connection with code 1001: \"bye\"\n")
+            must("what is told behind it", one.tells(), AGAIN)
+            server.socket.close()
+            one.type(WRITES)
+            one.prints("a line without a connection", 'done 1\nL1 added "x" 5 after none\nL1 value {"x":5,"y":1}\n')
+            began = time.monotonic()
+            server.welcome()
+            if time.monotonic() - began < 0.5:
+                raise Wrong("it connects again at once")
+            must("what is told of the next connection", one.tells(), "kaltewi: connected again\n")
+            must("what is sent again", server.hear_all(3), [HELLO, listen("/a", 1), wrote(1, "/a/x", 5)])
+            server.send(pushed("/a", 1, {"x": 5, "y": 1}), accepted(1))
+            one.prints("the answer of the next connection", "R1 ok\n")
+            one.end()
+            must("what is told of the end of the lines", one.tells(), ENDED)
+            server.send(frame(CLOSE, b"\x03\xe8"))
+            must("how it ends", one.ended(), (0, "disconnected\n", 'kaltewi: the server closed the connection with code 1000: ""\n'))
+        finally:
+            server.close()
+
+
+def once_it_connects(program):
+    """With --once there is no second connection."""
+    server = Server()
+    with Watch(program, server.port, "--once", lines=LISTENS) as one:
+        try:
+            server.welcome()
+            must("what the client sends", server.hear_all(2), [HELLO, listen("/a", 1)])
+            server.send(frame(CLOSE, b"\x03\xe8"))
+            one.prints("the end of the connection", "done 1\ndisconnected\n")
+            server.listener.settimeout(2)
+            try:
+                server.listener.accept()
+                raise Wrong("it connects again with --once")
+            except TimeoutError:
+                pass
+            one.end()
+            must("how it ends", one.ended(), (0, "", ""))
+        finally:
+            server.close()
+
+
+LONG = "é" * 40
+ADDED, VALUE = f'L1 added "x" "{LONG}" after none\n', f'L1 value {{"x":"{LONG}"}}\n'
+CUT = f'L1 value {{"x":"{"é" * 6} .. (88 bytes)\n'
+
+
+def values_are_shaped(program):
+    """Whole values are printed, left out, or cut between two characters; what a listener shows is printed whole."""
+    for words, first, value in (([], "L1 value null\n", VALUE), (["--changes"], "", ""), (["--width", "60"], "L1 value null\n", CUT)):
+        with Emulator(program) as it, Watch(program, it.port, *words, lines=LISTENS) as one:
+            one.prints(f"a listen {words}", "done 1\n" + first)
+            one.type(f'["set",1,"/a/x","{LONG}"]\n')
+            one.prints(f"a write {words}", f"done 1\n{ADDED}{value}R1 ok\n")
+            one.type('["view",1]\n["view",2]\n')
+            one.prints(f"a view {words}", f'row "x" "{LONG}"\nrefused core 2 UnknownListener\n')
+
+
+def it_pushes(program):
+    """A value is written below a path by a push id, which is printed; ids rise. A word that is refused is told in words."""
+    with Emulator(program) as it, Watch(program, it.port, "-v", lines="") as one:
+        must("what is told of the connection", one.tells(), CONNECTED)
+        keys = []
+        for value in (1, 2):
+            one.type(f'["push",1,"/a",{value}]\n')
+            line = one.reads()
+            keys.append(line.removeprefix("id ").rstrip("\n"))
+            must("a push id", (line[:3], len(keys[-1])), ("id ", 20))
+            one.prints("a push", f"done {value}\nR{value} ok\n")
+        must("the order of the ids", keys, sorted(set(keys)))
+        one.type('["listen",1,"/a",[]]\n')
+        added = f'L1 added "{keys[0]}" 1 after none\nL1 added "{keys[1]}" 2 after "{keys[0]}"\n'
+        one.prints("what was pushed", f'done 1\n{added}L1 value {{"{keys[0]}":1,"{keys[1]}":2}}\n')
+        one.type('["push",1,"/a.b",1]\n["push",9,"/a",1]\n')
+        one.prints("a path that is none", "refused tree 1 BadKey\n")
+        must("what is told of it", one.tells().partition(" is refused: ")[0], "kaltewi: line 4")
+        must("a seat that is none", (one.reads()[:3], one.reads()), ("id ", "refused client 2 WrongSeat\n"))
 
 
 def failing_streams(program):
@@ -349,6 +481,11 @@ SESSIONS = [
     an_idle_one_sleeps,
     lines_are_told,
     a_server_is_heard,
+    a_stream_fails_first,
+    it_connects_again,
+    once_it_connects,
+    values_are_shaped,
+    it_pushes,
     no_connection,
     failing_streams,
 ]
@@ -361,6 +498,7 @@ WORDS = {
     ("8080", "--idle", "0"): "error: invalid value '0' for '--idle <MS>': 0 is not in 1..=65535\n",
     ("8080", "--idle", "65536"): "error: invalid value '65536' for '--idle <MS>': 65536 is not in 1..=65535\n",
     ("8080", "8081"): "error: unexpected argument '8081' found\n",
+    ("8080", "--width", "0"): "error: invalid value '0' for '--width <N>': 0 is not in 1..=65535\n",
 }
 
 
