@@ -17,7 +17,7 @@ use crate::laying::lay_below;
 use crate::list::{overlaid_by_each, some_sets_child_whole, some_sets_whole};
 use crate::merged::{merged_anew, merged_with, merged_without};
 use crate::numbers::place_of;
-use crate::spots::Spot;
+use crate::spots::{Spot, sets_child};
 use crate::write::Write;
 use rt_tree::{Key, Path, Tree};
 use std::alloc::{AllocError, Global};
@@ -246,12 +246,16 @@ impl Pending {
         ensures shallow { IfOk result (λ after. IsShallow (path.now, after)) }
         ensures touched { OnErr result (touches self.now path.now ≡ true) }
     {
-        // For the prover: no leaf of an entry is too deep.
+        // For the prover: the numbers of the writes rise, and no leaf of an entry is too deep.
         let _is_kept = self.len();
-        let last = root.last_whole(path.keys());
-        match self.kept(root, last, path)? {
-            Some(after) => Ok(after),
-            None => self.overlay_by_spots(root, last, path, tree),
+        let (last, spot) = root.look(path.keys());
+        if let Some(after) = self.kept(root, last, path)? {
+            return Ok(after);
+        }
+        let after = self.overlaid_last(last, path, tree)?;
+        match spot {
+            Some(spot) => lay_below(spot, &self.writes, last, path, after),
+            None => Ok(after),
         }
     }
 
@@ -267,30 +271,6 @@ impl Pending {
         match last {
             Some(number) => root.copy_kept(*self.writes.allocator(), number, path.keys()),
             None => Ok(None),
-        }
-    }
-
-    // The same, by the last write at or above the path, and spot by spot by what came after it.
-    fn overlay_by_spots(
-        &self,
-        root: &Spot,
-        last: Option<u64>,
-        path: &Path,
-        tree: Tree,
-    ) -> Result<Tree, AllocError>
-        requires shallow { IsShallow (path.now, tree) }
-        requires merged { IsMerged self.now root.now }
-        requires last { IsLast (IsAbove root.now path.now) last }
-        ensures overlay { IfOk result (λ after. after ≡ overlay path.now tree self.now) }
-        ensures shallow { IfOk result (λ after. IsShallow (path.now, after)) }
-        ensures touched { OnErr result (touches self.now path.now ≡ true) }
-    {
-        // For the prover: the numbers of the writes rise.
-        let _numbers_rise = self.len();
-        let after = self.overlaid_last(last, path, tree)?;
-        match root.at(path.keys()) {
-            Some(spot) => lay_below(spot, &self.writes, last, path, after),
-            None => Ok(after),
         }
     }
 
@@ -328,7 +308,7 @@ impl Pending {
         ensures { result ≡ sets_whole self.now path.now }
     {
         match &self.merged {
-            Some(root) => root.last_whole(path.keys()).is_some(),
+            Some(root) => root.look(path.keys()).0.is_some(),
             None => self.sets_whole_by_list(path),
         }
     }
@@ -346,7 +326,10 @@ impl Pending {
         ensures { result ≡ sets_child_whole self.now path.now key.now }
     {
         match &self.merged {
-            Some(root) => self.sets_whole(path) || root.sets_child(path.keys(), key),
+            Some(root) => {
+                let (last, spot) = root.look(path.keys());
+                last.is_some() || sets_child(spot, key)
+            }
             None => self.sets_child_whole_by_list(path, key),
         }
     }

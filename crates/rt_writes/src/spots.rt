@@ -2,7 +2,7 @@
 ghost use Rattle.std.specs.Prelude.{◌≡◌, ◌==◌, ◌↔◌, ◌++◌, ◌∷◌, [], ℕ, true, false, IsTrue, OnOk};
 ghost use Rattle.std.specs.Prelude.{Some, None, if◌then◌else◌, ◌<◌, ◌≤◌, IfOk, IfSome, not, length};
 ghost use Rattle.std.specs.List.{All};
-ghost use Rattle.std.specs.Option.{option_copied};
+ghost use Rattle.std.specs.Option.{option_copied, option_map_or};
 ghost use Rattle.std.specs.Ordering.{nat_cmp};
 ghost use Rattle.std.specs.BTreeMap.{get};
 ghost use Rattle.rt_tree.specs.PathTree.{Path as Keys, null, is_null};
@@ -133,18 +133,20 @@ impl Spot {
         }
     }
 
-    // The greatest number of a write with an entry at or above these keys.
-    pub(crate) fn last_whole(&self, keys: &[Key]) -> Option<u64>
-        ensures { IsLast (IsAbove self.now keys.now) result }
+    // The greatest number of a write with an entry at or above these keys, and the spot there.
+    pub(crate) fn look(&self, keys: &[Key]) -> (Option<u64>, Option<&Spot>)
+        ensures last { IsLast (IsAbove self.now keys.now) result.0 }
+        ensures spot { option_copied result.1 ≡ spot_at self.now keys.now }
     {
         let here = self.last_here();
         let Some((key, rest)) = keys.split_first() else {
-            return here;
+            return (here, Some(self));
         };
         let Some(child) = self.below.get(key) else {
-            return here;
+            return (here, None);
         };
-        later(here, child.last_whole(rest))
+        let (last, spot) = child.look(rest);
+        (later(here, last), spot)
     }
 
     // The greatest number of a write that sets the whole of what stands here.
@@ -192,30 +194,6 @@ impl Spot {
         }
     }
 
-    // The spot below these keys.
-    pub(crate) fn at(&self, keys: &[Key]) -> Option<&Spot>
-        ensures { option_copied result ≡ spot_at self.now keys.now }
-    {
-        let Some((key, rest)) = keys.split_first() else {
-            return Some(self);
-        };
-        match self.below.get(key) {
-            Some(child) => child.at(rest),
-            None => None,
-        }
-    }
-
-    // Whether a write sets the whole of the child of that key, below these keys.
-    pub(crate) fn sets_child(&self, keys: &[Key], key: &Key) -> bool
-        ensures { IsTrue result ↔ ((j : ℕ)
-            × (has_here self.now (keys.now ++ key.now ∷ []) j ≡ true)) }
-    {
-        match self.at(keys) {
-            Some(spot) => spot.is_child_set(key),
-            None => false,
-        }
-    }
-
     // Whether a write sets the whole of the child of that key.
     fn is_child_set(&self, key: &Key) -> bool
         ensures { IsTrue result ↔ ((j : ℕ) × (has_here self.now (key.now ∷ []) j ≡ true)) }
@@ -254,5 +232,16 @@ pub(crate) fn later(left: Option<u64>, right: Option<u64>) -> Option<u64>
     match right {
         Some(other) => Some(one.max(other)),
         None => Some(one),
+    }
+}
+
+// Whether a write sets the whole of the child of that key, where there is a spot.
+pub(crate) fn sets_child(spot: Option<&Spot>, key: &Key) -> bool
+    ensures { IsTrue result ↔ ((j : ℕ)
+        × (option_map_or (λ s. has_here s (key.now ∷ []) j) (option_copied spot.entry) false ≡ true)) }
+{
+    match spot {
+        Some(spot) => spot.is_child_set(key),
+        None => false,
     }
 }
