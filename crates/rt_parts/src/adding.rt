@@ -12,11 +12,10 @@ use rt_cache::Brought;
 use rt_query::Query;
 use rt_world::Note;
 use rt_writes::Pending;
-use std::alloc::{AllocError, Global};
+use std::alloc::AllocError;
 
 // A new listener, with its first view where something is known for its query; its seat is told.
 pub(crate) fn first(
-    alloc: Global,
     number: u64,
     seat: u64,
     query: Query,
@@ -33,6 +32,6 @@ pub(crate) fn first(
         ++ option_to_list (told brought.now pending.now (new_listener number seat query))) }
 {
     let mut listener = unprimed(number, seat, query);
-    renew(alloc, &mut listener, brought, pending, notes)?;
+    renew(&mut listener, brought, pending, notes)?;
     Ok(listener)
 }

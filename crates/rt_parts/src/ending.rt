@@ -169,15 +169,11 @@ pub(crate) fn numbers_of_form(
 }
 
 // Tells the listener's seat that it ends.
-fn tell_end(
-    alloc: Global,
-    listener: &Held,
-    why: &Reason,
-    notes: &mut Vec<Note>,
-) -> Result<(), AllocError>
+fn tell_end(listener: &Held, why: &Reason, notes: &mut Vec<Note>) -> Result<(), AllocError>
     ensures { OnOk result (notes.new.items ≡ notes.old.items
         ++ cancelled_note why.now (listener_of listener.now) ∷ []) }
 {
+    let alloc = *notes.allocator();
     notes.push(Note {
         seat: listener.seat,
         body: Body::Cancelled {
@@ -190,7 +186,6 @@ fn tell_end(
 
 // Tells the seat of the listener of that number that it ends, if it is registered.
 fn tell_number(
-    alloc: Global,
     listeners: &[Held],
     number: u64,
     why: &Reason,
@@ -201,14 +196,13 @@ fn tell_number(
         ++ filter_map (ended_at number why.now) (listeners_of listeners.now)) }
 {
     match place_of(listeners, number) {
-        Some(at) => tell_end(alloc, &listeners[at], why, notes),
+        Some(at) => tell_end(&listeners[at], why, notes),
         None => Ok(()),
     }
 }
 
 // Tells the seats of the listeners of these numbers that these end, by number.
 pub(crate) fn tell_ends(
-    alloc: Global,
     listeners: &[Held],
     numbers: &[u64],
     why: &Reason,
@@ -220,7 +214,7 @@ pub(crate) fn tell_ends(
         ++ filter_map (ended_among numbers.now why.now) (listeners_of listeners.now)) }
 {
     for number in numbers {
-        tell_number(alloc, listeners, *number, why, notes)?;
+        tell_number(listeners, *number, why, notes)?;
     }
     Ok(())
 }

@@ -15,7 +15,7 @@ ghost use Rattle.rt_parts.specs.inside.HeldView.{IsHeld, listener_of, shown_in, 
 use rt_query::{Query, Shown};
 use rt_tree::{Key, MAX_KEYS, Tree};
 use rt_view::{ChangeList, View};
-use std::alloc::{AllocError, Global};
+use std::alloc::AllocError;
 
 // A registered listener; it has a view once it is primed, and counts how many children were taken anew
 // for that, modulo 2^64. Nothing but the calls of this file changes the two: none of them throws a view
@@ -90,7 +90,7 @@ pub(crate) fn stays_object(listener: &Held, named: &[(Key, Tree)]) -> bool
 }
 
 // The listener sees that tree from now on: the changes of its view.
-pub(crate) fn show(alloc: Global, listener: &mut Held, seen: Tree) -> Result<ChangeList, AllocError>
+pub(crate) fn show(listener: &mut Held, seen: Tree) -> Result<ChangeList, AllocError>
     requires { IsHeld listener.old }
     ensures view { OnOk result (listener_of listener.new ≡ seeing seen (listener_of listener.old)) }
     ensures held { OnOk result (IsHeld listener.new) }
@@ -103,6 +103,7 @@ pub(crate) fn show(alloc: Global, listener: &mut Held, seen: Tree) -> Result<Cha
     ensures count { OnOk result
         (listener.new.count ≡ count_with listener.old.count listener.new.view) }
 {
+    let alloc = listener.query.path().allocator();
     if let Some(view) = &mut listener.view {
         return match view.renew(alloc, seen) {
             Ok(changes) => {
@@ -120,11 +121,7 @@ pub(crate) fn show(alloc: Global, listener: &mut Held, seen: Tree) -> Result<Cha
 }
 
 // Puts these children into the listener's view, which it has: the changes of the view.
-pub(crate) fn touch(
-    alloc: Global,
-    listener: &mut Held,
-    named: Vec<(Key, Tree)>,
-) -> Result<ChangeList, AllocError>
+pub(crate) fn touch(listener: &mut Held, named: Vec<(Key, Tree)>) -> Result<ChangeList, AllocError>
     requires held { IsHeld listener.old }
     requires levels { All (λ c. levels c.1 ≤ MAX_KEYS) named.items }
     ensures listener { OnOk result (listener.new ≡ record listener.old {
@@ -138,6 +135,7 @@ pub(crate) fn touch(
     ensures changes { IfOk result (λ list. (v : View) → listener.old.view ≡ Some v
         → list ≡ told_of v (touched v named.items)) }
 {
+    let alloc = *named.allocator();
     let Some(view) = &mut listener.view else {
         drop(named);
         return Err(AllocError);

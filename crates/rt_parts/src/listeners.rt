@@ -136,7 +136,6 @@ impl Listeners {
         let pairs = pairs_met(alloc, &places, entries)?;
         let numbers = numbers_in(alloc, &pairs)?;
         refresh(
-            alloc,
             held.as_mut_slice(),
             &numbers,
             entries,
@@ -187,7 +186,6 @@ impl Listeners {
         let ordered = in_order(alloc, queries)?;
         let numbers = numbers_at(alloc, &places, &ordered)?;
         renew_all(
-            alloc,
             held.as_mut_slice(),
             &numbers,
             &ordered,
@@ -226,9 +224,8 @@ impl Listeners {
         ensures counts { OnOk result
             ((count : ℕ) × (self.new.counts ≡ self.old.counts ++ count ∷ [])) }
     {
-        let alloc = *self.held.allocator();
         let path = query.path().copy()?;
-        let listener = first(alloc, number, seat, query, brought, pending, notes)?;
+        let listener = first(number, seat, query, brought, pending, notes)?;
         self.places.reserve(1)?;
         self.held.push(listener)?;
         insert_place(&mut self.places, Place { path, number, seat });
@@ -282,7 +279,7 @@ impl Listeners {
     {
         let alloc = *self.held.allocator();
         let numbers = numbers_of_form(alloc, &self.held, &self.places, listened)?;
-        tell_ends(alloc, &self.held, &numbers, why, notes)?;
+        tell_ends(&self.held, &numbers, why, notes)?;
         end_listened(&mut self.held, &mut self.places, &numbers, listened);
         Ok(())
     }

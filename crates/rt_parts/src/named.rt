@@ -17,7 +17,7 @@ use rt_cache::Brought;
 use rt_query::Query;
 use rt_tree::{Key, MAX_KEYS, Path, Tree};
 use rt_writes::{Pending, overlay_law};
-use std::alloc::{AllocError, Global};
+use std::alloc::AllocError;
 
 // The key that follows the path in the entry's, if that is below it.
 fn named_by<'a>(path: &Path, entry: &'a (Path, Tree)) -> Option<&'a Key>
@@ -59,7 +59,6 @@ fn put_named(
 
 // The keys of the path's children that the entries of these pairs name, one behind another.
 fn keys_by(
-    alloc: Global,
     path: &Path,
     entries: &[(Path, Tree)],
     own: &[(u64, usize)],
@@ -67,7 +66,7 @@ fn keys_by(
     ensures { IfOk result (λ keys. keys.items
         ≡ filter_map (named_at path.now entries.now) own.now) }
 {
-    let mut keys = Vec::new(alloc);
+    let mut keys = Vec::new(path.allocator());
     for pair in own {
         put_named(&mut keys, path, entries, *pair)?;
     }
@@ -86,7 +85,6 @@ fn sort_once(keys: &mut Vec<Key>)
 // The keys of the path's children that the entries name, in order, each once. Those that meet the path
 // are among the own ones, which are alone looked at.
 fn named_keys(
-    alloc: Global,
     path: &Path,
     entries: &[(Path, Tree)],
     own: &[(u64, usize)],
@@ -94,7 +92,7 @@ fn named_keys(
     requires { HasOwn entries.now own.now path.now }
     ensures { IfOk result (λ keys. AreNamedKeys path.now entries.now keys.items) }
 {
-    let mut keys = keys_by(alloc, path, entries, own)?;
+    let mut keys = keys_by(path, entries, own)?;
     sort_once(&mut keys);
     Ok(keys)
 }
@@ -141,7 +139,6 @@ fn seen_child(
 
 // The children that the entries name, in the order of keys, each taken alone.
 pub(crate) fn named_children(
-    alloc: Global,
     entries: &[(Path, Tree)],
     own: &[(u64, usize)],
     brought: &Brought,
@@ -153,8 +150,8 @@ pub(crate) fn named_children(
         AreNamed entries.now brought.now pending.now query.now named.items) }
     ensures levels { IfOk result (λ named. All (λ c. levels c.1 ≤ MAX_KEYS) named.items) }
 {
-    let keys = named_keys(alloc, query.path(), entries, own)?;
-    let mut named = Vec::new(alloc);
+    let keys = named_keys(query.path(), entries, own)?;
+    let mut named = Vec::new(query.path().allocator());
     for key in &keys {
         let tree = seen_child(brought, pending, query, key)?;
         named.push((key.copy()?, tree))?;

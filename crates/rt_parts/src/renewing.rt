@@ -200,7 +200,6 @@ pub(crate) fn numbers_at(
 
 // Takes the view from scratch, if the listener's query is one of these.
 fn renew_one(
-    alloc: Global,
     listener: &mut Held,
     queries: &[Query],
     brought: &Brought,
@@ -222,12 +221,11 @@ fn renew_one(
     if !is_among(queries, &listener.query) {
         return Ok(());
     }
-    renew(alloc, listener, brought, pending, notes)
+    renew(listener, brought, pending, notes)
 }
 
 // Takes the view of the listener of that number from scratch, if its query is one of these.
 fn renew_number(
-    alloc: Global,
     listeners: &mut [Held],
     number: u64,
     queries: &[Query],
@@ -249,7 +247,7 @@ fn renew_number(
         (map pair_of listeners.old)) }
 {
     match place_of(listeners, number) {
-        Some(at) => renew_one(alloc, &mut listeners[at], queries, brought, pending, notes),
+        Some(at) => renew_one(&mut listeners[at], queries, brought, pending, notes),
         None => Ok(()),
     }
 }
@@ -257,7 +255,6 @@ fn renew_number(
 // Takes the views of those listeners from scratch, by number, whose query is one of these: the numbers
 // of all of them are among those that are given. No other listener is looked at.
 pub(crate) fn renew_all(
-    alloc: Global,
     listeners: &mut [Held],
     numbers: &[u64],
     queries: &[Query],
@@ -280,7 +277,7 @@ pub(crate) fn renew_all(
         ++ all_told_of queries.now brought.now pending.now (listeners_of listeners.old)) }
 {
     for number in numbers {
-        renew_number(alloc, listeners, *number, queries, brought, pending, notes)?;
+        renew_number(listeners, *number, queries, brought, pending, notes)?;
     }
     Ok(())
 }

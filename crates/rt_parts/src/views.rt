@@ -25,7 +25,7 @@ use rt_tree::{Path, Tree};
 use rt_view::{Batch, ChangeList};
 use rt_world::{Body, Note};
 use rt_writes::Pending;
-use std::alloc::{AllocError, Global};
+use std::alloc::AllocError;
 
 // Whether the listener has a view, or gets its first.
 fn is_due(listener: &Held, brought: &Brought, pending: &Pending) -> bool
@@ -56,7 +56,6 @@ fn tell(notes: &mut Vec<Note>, listener: &Held, changes: ChangeList) -> Result<(
 // Takes the view from scratch, where the listener has one or something is known for it, and tells
 // its seat what changes.
 pub(crate) fn renew(
-    alloc: Global,
     listener: &mut Held,
     brought: &Brought,
     pending: &Pending,
@@ -78,14 +77,13 @@ pub(crate) fn renew(
         return Ok(());
     }
     let seen = seen(brought, pending, &listener.query)?;
-    let changes = show(alloc, listener, seen)?;
+    let changes = show(listener, seen)?;
     tell(notes, listener, changes)
 }
 
 // Touches the view with the children that the entries name, if it stays an object; else takes it from
 // scratch.
 fn touch_or_renew(
-    alloc: Global,
     listener: &mut Held,
     entries: &[(Path, Tree)],
     own: &[(u64, usize)],
@@ -108,11 +106,11 @@ fn touch_or_renew(
     ensures notes { OnOk result (notes.new.items ≡ notes.old.items
         ++ option_to_list (told brought.now pending.now (listener_of listener.old))) }
 {
-    let named = named_children(alloc, entries, own, brought, pending, &listener.query)?;
+    let named = named_children(entries, own, brought, pending, &listener.query)?;
     if !stays_object(listener, &named) {
-        return renew(alloc, listener, brought, pending, notes);
+        return renew(listener, brought, pending, notes);
     }
-    let changes = touch(alloc, listener, named)?;
+    let changes = touch(listener, named)?;
     tell(notes, listener, changes)
 }
 
@@ -172,7 +170,6 @@ fn is_covered(entries: &[(Path, Tree)], own: &[(u64, usize)], path: &Path) -> bo
 
 // Touches or renews the view, where an entry meets the listener's path; else it isn't looked at.
 fn refresh_one(
-    alloc: Global,
     listener: &mut Held,
     entries: &[(Path, Tree)],
     own: &[(u64, usize)],
@@ -197,14 +194,13 @@ fn refresh_one(
         return Ok(());
     }
     if is_covered(entries, own, listener.query.path()) {
-        return renew(alloc, listener, brought, pending, notes);
+        return renew(listener, brought, pending, notes);
     }
-    touch_or_renew(alloc, listener, entries, own, brought, pending, notes)
+    touch_or_renew(listener, entries, own, brought, pending, notes)
 }
 
 // Touches or renews the view of the listener of that number, if an entry meets its path.
 fn refresh_number(
-    alloc: Global,
     listeners: &mut [Held],
     number: u64,
     entries: &[(Path, Tree)],
@@ -231,15 +227,7 @@ fn refresh_number(
     match place_of(listeners, number) {
         Some(at) => {
             let own = own_of(met, number);
-            refresh_one(
-                alloc,
-                &mut listeners[at],
-                entries,
-                own,
-                brought,
-                pending,
-                notes,
-            )
+            refresh_one(&mut listeners[at], entries, own, brought, pending, notes)
         }
         None => Ok(()),
     }
@@ -249,7 +237,6 @@ fn refresh_number(
 // of these are among those that are given, and the entries that meet them are told by the pairs. No
 // other listener is looked at, and of each no other entry.
 pub(crate) fn refresh(
-    alloc: Global,
     listeners: &mut [Held],
     numbers: &[u64],
     entries: &[(Path, Tree)],
@@ -276,9 +263,7 @@ pub(crate) fn refresh(
         ++ all_told entries.now brought.now pending.now (listeners_of listeners.old)) }
 {
     for number in numbers {
-        refresh_number(
-            alloc, listeners, *number, entries, met, brought, pending, notes,
-        )?;
+        refresh_number(listeners, *number, entries, met, brought, pending, notes)?;
     }
     Ok(())
 }
