@@ -28,7 +28,7 @@ use Rattle.rt_cache.specs.declared.registered.Form.{Form}
 use Rattle.rt_cache.specs.declared.spans.Span.{Span}
 use Rattle.rt_cache.specs.declared.window.Window.{Window}
 use Rattle.rt_cache.specs.inside.Cuts.{IsCut}
-use Rattle.rt_cache.specs.inside.Handing.{window_queries, is_alike, is_staying, staying_of, is_region_lost, is_window_lost, is_loser, is_under_one, is_under_lost_one, hands_on, is_beside_one, AreGathered}
+use Rattle.rt_cache.specs.inside.Handing.{window_queries, is_alike, is_staying, staying_of, is_region_lost, is_window_lost, is_loser, is_under_one, is_under_lost_one, hands_on, is_beside_one, is_supplied_by_one, is_near_one, AreGathered}
 use Rattle.rt_cache.specs.inside.Held.{pairs_of, entry_of, entries_of}
 use Rattle.rt_cache.specs.inside.Listed.{form_query, queries_of}
 use Rattle.rt_cache.specs.inside.Sources.{HaveForms}
@@ -80,6 +80,14 @@ any_or a b p (q ∷ qs) =
     parted true false false m n = refl
     parted false true false m n = refl
     parted false false false m n = refl
+
+-- one test more
+pub any_narrowed : (a b p : Query → Bool) (qs : List Query) → list_any (λ f. a f && (p f && b f)) qs ≡ list_any (λ f. (a f && b f) && p f) qs
+any_narrowed a b p qs = any_agreeing (λ f. a f && (p f && b f)) (λ f. (a f && b f) && p f) qs (λ k d lt. grouped (a (get_or qs k d)) (p (get_or qs k d)) (b (get_or qs k d)))
+  where
+    grouped : (x y z : Bool) → (x && (y && z)) ≡ ((x && z) && y)
+    grouped false y z = refl
+    grouped true y z = and_turned y z
 
 pub any_no : (p : Query → Bool) (qs : List Query) → list_any (λ f. false && p f) qs ≡ false
 any_no p [] = refl
@@ -219,6 +227,12 @@ covered false true rest h = absurd (true≢false (sym (h refl)))
 
 -- ---- who loses something is gathered
 
+-- where one alone ends, it supplies what an ended one does
+supplied_by_one : (ended : List Query) (w q : Query) → is_among ended w ≡ true → does_supply w q ≡ true → is_supplied_by_one ended q ≡ true
+supplied_by_one [] w q m s = refl
+supplied_by_one (v ∷ []) w q m s = ap (λ x. does_supply x q) ((query_eq_tells v w).0 (sym (or_no (query_eq v w)) ∙ m)) ∙ s
+supplied_by_one (v ∷ u ∷ vs) w q m s = refl
+
 -- what stands in a slice
 in_slice : {X : Type 0} (test : X → Bool) (xs : List X) (n m k : ℕ) (d : X) → n ≤ k → k < m → m ≤ length xs → test (get_or xs k d) ≡ true → list_any test (slice_range xs n m) ≡ true
 in_slice test xs n m k d le lt within e =
@@ -233,7 +247,7 @@ module _ (were ended filtered gathered kept : List Query) (rs : List Region) (ss
     (h : HaveForms were (in_query_order (entries_of ws))) (apart : have_overlap (pairs_of rs) ≡ false) (cut : IsCut kept rs ss ps)
     (within : All (λ (s : Span). (s.start ≤ s.end) × (s.end ≤ length rs)) ss)
     (listed : (p : Query → Bool) → list_any p filtered ≡ list_any (λ f. is_filtered f && p f) were)
-    (any : (p : Query → Bool) → list_any p gathered ≡ (list_any (λ f. is_beside_one ws ended f && p f) filtered || list_any (λ f. is_under_lost_one rs ss f && p f) filtered)) where
+    (any : (p : Query → Bool) → list_any p gathered ≡ (list_any (λ f. is_near_one ws ended f && p f) filtered || list_any (λ f. is_under_lost_one rs ss f && p f) filtered)) where
   -- a region that is lost and holds the path is one of those that are looked at
   region_gathered : (q : Query) → is_filtered q ≡ true → is_region_lost kept (pairs_of rs) q ≡ true → is_under_lost_one rs ss q ≡ true
   region_gathered q f e = at (is_under_lost_one rs ss q) refl
@@ -262,7 +276,7 @@ module _ (were ended filtered gathered kept : List Query) (rs : List Region) (ss
           absurd (true≢false (sym e ∙ none_lost (q ∷ []) (q ∷ []) kept rs ss ps alone apart cut (clear u) q f (ap (λ b. b || false) ((query_eq_tells q q).1 refl))))
 
   -- so is the path of a form that ended and whose window was a staying form's
-  window_gathered : (q : Query) → is_staying ended false q ≡ true → is_window_lost (window_queries ws) (staying_of ended false (window_queries ws)) q ≡ true → is_beside_one ws ended q ≡ true
+  window_gathered : (q : Query) → is_staying ended false q ≡ true → is_window_lost (window_queries ws) (staying_of ended false (window_queries ws)) q ≡ true → is_near_one ws ended q ≡ true
   window_gathered q stays e =
       let a = Any-from_list_any (λ y. does_supply y q) (window_queries ws) (both_first (list_any (λ y. does_supply y q) (window_queries ws)) _ e) in
       let w : Query = a.1 in
@@ -286,13 +300,15 @@ module _ (were ended filtered gathered kept : List Query) (rs : List Region) (ss
           let takes : takes_in w q ≡ true = sym (ap (λ c. c || takes_in w q) u) ∙ sym (supply_filtered w q f) ∙ s in
           absurd (true≢false (sym limited ∙ (taken_in w q takes).unlimited))
 
-      by : (c : Bool) (w : Query) → is_some w.limit ≡ c → is_among ended w ≡ true → is_filtered w ≡ true → is_some (map_of.find query_cmp w (entries_of ws)) ≡ true → does_supply w q ≡ true → is_beside_one ws ended q ≡ true
+      by : (c : Bool) (w : Query) → is_some w.limit ≡ c → is_among ended w ≡ true → is_filtered w ≡ true → is_some (map_of.find query_cmp w (entries_of ws)) ≡ true → does_supply w q ≡ true → is_near_one ws ended q ≡ true
       by true w limited out f found s =
           absurd (true≢false (sym stays ∙ ap (λ b. is_alike b false) (ap (is_among ended) (sym (same w f limited s (query_eq w q) refl)) ∙ out)))
       by false w limited out f found s =
-          any_with (λ x. hands_on ws x && path_eq q.path x.path) ended w (of_among ended w out)
+          both (is_beside_one ws ended q) (is_supplied_by_one ended q)
+          (any_with (λ x. hands_on ws x && path_eq q.path x.path) ended w (of_among ended w out)
           (both (hands_on ws w) (path_eq q.path w.path) (both (not (is_some w.limit)) (is_some (map_of.find query_cmp w (entries_of ws))) (ap not limited) found)
-          (ap (path_eq q.path) (supplied_has_path w q f s) ∙ path_eq-same q.path))
+          (ap (path_eq q.path) (supplied_has_path w q f s) ∙ path_eq-same q.path)))
+          (supplied_by_one ended w q out s)
 
   -- a registered filtered form is gathered that passes a test
   one_gathered : (test : Query → Bool) (q : Query) → is_filtered q ≡ true → is_among were q ≡ true → test q ≡ true → list_any (λ f. test f && query_eq f q) filtered ≡ true
@@ -319,7 +335,7 @@ module _ (were ended filtered gathered kept : List Query) (rs : List Region) (ss
 
       of_were : (q : Query) → list_any (λ x. query_eq x q) gathered ≡ true → Contains were q
       of_were q e =
-          ⊎_elim (λ u. of_filtered (is_beside_one ws ended) q u) (λ u. of_filtered (is_under_lost_one rs ss) q u)
+          ⊎_elim (λ u. of_filtered (is_near_one ws ended) q u) (λ u. of_filtered (is_under_lost_one rs ss) q u)
           (from_either _ _ (sym (any (λ x. query_eq x q)) ∙ e))
 
       right : (b : Bool) → (b || true) ≡ true
@@ -330,12 +346,12 @@ module _ (were ended filtered gathered kept : List Query) (rs : List Region) (ss
           → (is_region_lost kept (pairs_of rs) q || is_window_lost (window_queries ws) (staying_of ended false (window_queries ws)) q) ≡ true → is_among gathered q ≡ true
       lost_one q m stays f true region e =
           any (λ x. query_eq x q)
-          ∙ ap (λ b. list_any (λ x. is_beside_one ws ended x && query_eq x q) filtered || b) (one_gathered (is_under_lost_one rs ss) q f m (region_gathered q f region))
-          ∙ right (list_any (λ x. is_beside_one ws ended x && query_eq x q) filtered)
+          ∙ ap (λ b. list_any (λ x. is_near_one ws ended x && query_eq x q) filtered || b) (one_gathered (is_under_lost_one rs ss) q f m (region_gathered q f region))
+          ∙ right (list_any (λ x. is_near_one ws ended x && query_eq x q) filtered)
       lost_one q m stays f false region e =
           any (λ x. query_eq x q)
           ∙ ap (λ b. b || list_any (λ x. is_under_lost_one rs ss x && query_eq x q) filtered)
-          (one_gathered (is_beside_one ws ended) q f m (window_gathered q stays (sym (ap (λ b. b || is_window_lost (window_queries ws) (staying_of ended false (window_queries ws)) q) region) ∙ e)))
+          (one_gathered (is_near_one ws ended) q f m (window_gathered q stays (sym (ap (λ b. b || is_window_lost (window_queries ws) (staying_of ended false (window_queries ws)) q) region) ∙ e)))
 
 -- where all are gathered, those are that lose something
 pub all_gathered : (kept : List Query) (regions : List (Path × PathTree)) (all those : List Query) (among : Bool) (held : List Query) → AreGathered kept regions all those among held all

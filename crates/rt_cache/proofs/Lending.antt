@@ -16,6 +16,7 @@ use Rattle.rt_tree.specs.TreeEq.{both_first, both_second, both}
 use Rattle.rt_query.specs.Queries.{Query, is_filtered}
 use Rattle.rt_query.specs.QueryEq.{query_eq}
 use Rattle.rt_query.specs.QueryOrder.{query_cmp}
+use Rattle.rt_query.specs.Supply.{does_supply}
 use Rattle.rt_query.specs.laws.QueryEq.{query_eq_tells}
 use Rattle.rt_cache.specs.Brought.{region_part}
 use Rattle.rt_cache.specs.Recover.{reaches, regions_kept, is_among}
@@ -25,7 +26,7 @@ use Rattle.rt_cache.specs.declared.spans.Span.{Span}
 use Rattle.rt_cache.specs.declared.window.Window.{Window}
 use Rattle.rt_cache.specs.inside.ByPath.{AreByQuery}
 use Rattle.rt_cache.specs.inside.Cuts.{parts_left, IsCut}
-use Rattle.rt_cache.specs.inside.Handing.{lent_queries, window_queries, is_alike, is_region_lost, AreThose}
+use Rattle.rt_cache.specs.inside.Handing.{lent_queries, window_queries, is_alike, is_region_lost, is_supplied_by_one, AreThose}
 use Rattle.rt_cache.specs.inside.Held.{pair_of, pairs_of}
 use Rattle.rt_cache.specs.inside.Spans.{has_place, have_place}
 use Rattle.rt_cache.proofs.Among.{any_with, of_among}
@@ -106,6 +107,21 @@ one_fails test old new forms n f whole lt at e same is =
 pub all_passed : (test : Query → Bool) (lent forms : List Lent) (n : ℕ) (whole : List Query) → length forms ≤ n → lent_queries lent ++ filter test (lent_queries (drop n forms)) ≡ whole → lent_queries lent ≡ whole
 all_passed test lent forms n whole done is =
     sym (append-nil (lent_queries lent)) ∙ ap (λ (ls : List Lent). lent_queries lent ++ filter test (lent_queries ls)) (sym (all_dropped n forms done)) ∙ is
+
+-- where not one alone ends, all stay; and where one does, it tells who stays
+every_one : (qs : List Query) → filter (λ q. true) qs ≡ qs
+every_one [] = refl
+every_one (q ∷ qs) = ap (λ xs. q ∷ xs) (every_one qs)
+
+pub all_stay : (ended lent : List Lent) → (length ended ≡ 1 → ⊥) → filter (is_supplied_by_one (lent_queries ended)) (lent_queries lent) ≡ lent_queries lent
+all_stay [] lent many = every_one (lent_queries lent)
+all_stay (w ∷ []) lent many = absurd (many refl)
+all_stay (w ∷ v ∷ ws) lent many = every_one (lent_queries lent)
+
+pub one_tells : (ended : List Lent) (one : Lent) → length ended ≡ 1 → one ≡ get_or ended 0 one → is_supplied_by_one (lent_queries ended) ≡ does_supply one.query.now
+one_tells [] one e at = absurd (omega (arith, e))
+one_tells (w ∷ []) one e at = ap (λ (l : Lent). does_supply l.query.now) (sym at)
+one_tells (w ∷ v ∷ ws) one e at = absurd (omega (arith, e))
 
 query_eq_turned : (x y : Query) → query_eq x y ≡ query_eq y x
 query_eq_turned x y = at (query_eq x y) refl (query_eq y x) refl

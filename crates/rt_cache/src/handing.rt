@@ -21,6 +21,7 @@ ghost use Rattle.rt_cache.specs.inside.Cuts.{IsCut};
 ghost use Rattle.rt_cache.specs.inside.Handing.{lent_queries, window_queries, is_region_lost};
 ghost use Rattle.rt_cache.specs.inside.Handing.{is_alike, is_staying, staying_of, is_window_lost, is_loser};
 ghost use Rattle.rt_cache.specs.inside.Handing.{is_under_one, is_under_lost_one, hands_on, is_beside_one};
+ghost use Rattle.rt_cache.specs.inside.Handing.{is_supplied_by_one};
 ghost use Rattle.rt_cache.specs.inside.Handing.{AreThose, AreGathered, AreLentOf, AreHanded, AreStaying};
 ghost use Rattle.rt_cache.specs.inside.Held.{pairs_of, entry_of, entries_of, held};
 ghost use Rattle.rt_cache.specs.inside.Listed.{form_query};
@@ -502,8 +503,22 @@ fn lend_beside<'a>(
     Ok(lent)
 }
 
+// Of the forms that are lent those that the form supplies that ends, where it alone does: no other of its path
+// had its window. Where several end, all stay.
+fn retain_supplied(lent: &mut Vec<Lent<'_>>, ended: &[Lent<'_>])
+    ensures { lent_queries lent.new.items
+        ≡ filter (is_supplied_by_one (lent_queries ended.now)) (lent_queries lent.old.items) }
+{
+    if ended.len() != 1 {
+        return;
+    }
+    let query = ended[0].query;
+    lent.retain(|one| query.supplies(one.query));
+}
+
 // The windows that are handed on where these forms end. Looks at the filtered forms at and under the regions
-// that are lost, and at those of the paths of forms that end and whose windows may be others'.
+// that are lost, and at those of the paths of forms that end and whose windows may be others': where one alone
+// ends, at each of these once, and then at those that it supplies.
 pub(crate) fn windows_of_ended(
     alloc: Global,
     regions: &[BoxedRegion],
@@ -529,6 +544,7 @@ pub(crate) fn windows_of_ended(
     let filtered = were.filtered();
     let those = in_query_order(alloc, ended)?;
     let mut lent = lend_beside(alloc, windows, &those, filtered)?;
+    retain_supplied(&mut lent, &those);
     lend_lost(&mut lent, regions, lost, filtered)?;
     let forms = in_query_order(alloc, &lent)?;
     windows_handed(

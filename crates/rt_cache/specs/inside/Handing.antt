@@ -1,5 +1,5 @@
 -- What forms lose in a change of cover, by what is found where it is kept.
-use Rattle.std.specs.Prelude.{◌≡◌, ℕ, ◌<◌, Bool, true, not, ◌&&◌, ◌||◌, if◌then◌else◌, List, length, map, is_some}
+use Rattle.std.specs.Prelude.{◌≡◌, ℕ, ◌<◌, Bool, true, not, ◌&&◌, ◌||◌, if◌then◌else◌, List, [], ◌∷◌, length, map, is_some}
 use Rattle.std.specs.Prelude.{slice_index_or}
 use Rattle.std.specs.List.{filter, list_any, slice_range, All, Contains}
 use Rattle.std.specs.FinMap as map_of
@@ -95,6 +95,16 @@ hands_on windows f = not (is_some f.limit) && is_some (map_of.find query_cmp f (
 abbrev pub is_beside_one : List Window → List Query → Query → Bool
 is_beside_one windows ended q =
     list_any (λ w. hands_on windows w && path_eq q.path w.path) ended
+
+-- where one alone ends, whether it supplies the query
+abbrev pub is_supplied_by_one : List Query → Query → Bool
+is_supplied_by_one [] q = true
+is_supplied_by_one (w ∷ []) q = does_supply w q
+is_supplied_by_one (w ∷ v ∷ ws) q = true
+
+-- whether both hold of a query
+abbrev pub is_near_one : List Window → List Query → Query → Bool
+is_near_one windows ended q = is_beside_one windows ended q && is_supplied_by_one ended q
 
 -- these are the windows that a change of cover hands on, in any order
 abbrev pub AreHanded : List Query → List Query → Brought → List (Query × what.Window) → Type 0
