@@ -258,7 +258,7 @@ wider_left p q ended ls is =
 -- ---- for whom a listen starts
 
 -- by the number of one that is registered
-begins_one : (ends : Registered → Bool) (ls : List Registered) → Rise ls → (p : ℕ → Bool) (l : Registered) → Contains ls l
+pub begins_one : (ends : Registered → Bool) (ls : List Registered) → Rise ls → (p : ℕ → Bool) (l : Registered) → Contains ls l
     → begins_at ends ls p l.0 ≡ ((not (ends l) && not (is_replaced ends ls l)) && p l.0)
 begins_one ends ls rise p l m = ap (λ o. option_map_or (λ (x : Registered). (not (ends x) && not (is_replaced ends ls x)) && p l.0) o false) (find_one (λ (x : Registered). x.0) ls l rise m)
 

@@ -24,4 +24,5 @@ pub mod TagLaws
 pub mod TagPlaceLaws
 pub mod TakenLaws
 pub mod TakerLaws
+pub mod TopLaws
 pub mod WidestLaws

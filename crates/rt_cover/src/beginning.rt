@@ -9,9 +9,9 @@ ghost use Rattle.rt_query.specs.Queries.{is_filtered};
 ghost use Rattle.rt_query.specs.Supply.{form, does_supply};
 ghost use Rattle.rt_cover.specs.Cover.{Tagged};
 ghost use Rattle.rt_cover.specs.inside.Endings.{by_number, is_replaced, begins_at, begins_after};
-ghost use Rattle.rt_cover.specs.inside.Endings.{has_supplied, is_range_at};
+ghost use Rattle.rt_cover.specs.inside.Endings.{has_supplied, is_range_at, IsOfBeginners};
 ghost use Rattle.rt_cover.specs.inside.Index.{by_form, form_of, AreApart};
-ghost use Rattle.rt_cover.specs.inside.Widest.{IsOfPath};
+ghost use Rattle.rt_cover.specs.inside.Widest.{Entry, IsOfPath, leads, IsOfTops};
 
 use crate::behind::{has_left, is_behind};
 use crate::by_path::{HasForm, supply};
@@ -21,7 +21,7 @@ use crate::listener::Listener;
 use crate::listeners::Listeners;
 use crate::listens::in_order;
 use crate::numbers::add_some;
-use crate::widest::{Widest, places_of_widest};
+use crate::widest::{Widest, is_wider_at, places_of_widest};
 use rt_forms::Filtered;
 use rt_query::Query;
 use rt_tree::Path;
@@ -251,56 +251,77 @@ fn is_supplied(ranges: &[Listen], form: &Query) -> bool
     supply(ranges, form)
 }
 
-// Adds the numbers of a form, if one of these ranges supplies it.
-fn add_form(numbers: &mut Vec<u64>, ranges: &[Listen], entry: &Filtered) -> Result<(), AllocError>
+// Whether the form at the other place, if any, is no other one that takes in the form at the place, and a
+// listener of this one is left.
+fn leads<E: Ending>(entries: &[Filtered], ending: &E, place: usize, last: Option<usize>) -> bool
+    requires within { place < length entries.now }
+    requires among { IfSome last (λ w. w < length entries.now) }
+    ensures { (d : Entry) → result ≡ leads (E.ended ending.now) entries.now d place last }
+{
+    !is_wider_at(entries, entries[place].form(), last) && has_left(entries[place].numbers(), ending)
+}
+
+// Whether one of the ranges supplies it besides.
+fn goes_in<E: Ending>(
+    ranges: &[Listen],
+    entries: &[Filtered],
+    ending: &E,
+    place: usize,
+    last: Option<usize>,
+) -> bool
     requires order { IsSorted (by_form form_of) ranges.now }
     requires filtered { All (λ k. is_filtered k.form ≡ true) ranges.now }
     requires apart { AreApart form_of ranges.now }
-    ensures { OnOk result ((t : ℕ → Bool) → list_any t numbers.new.items
-        ≡ (list_any t numbers.old.items
-        || list_any (λ k. does_supply k.form entry.now.0) ranges.now && list_any t entry.now.1)) }
+    requires within { place < length entries.now }
+    requires among { IfSome last (λ w. w < length entries.now) }
+    ensures { (d : Entry) → result ≡ (leads (E.ended ending.now) entries.now d place last
+        && list_any (λ k. does_supply k.form (slice_index_or entries.now place d).0) ranges.now) }
 {
-    if !is_supplied(ranges, entry.form()) {
-        return Ok(());
-    }
-    numbers.extend_from_slice(entry.numbers())?;
-    Ok(())
+    leads(entries, ending, place, last) && is_supplied(ranges, entries[place].form())
 }
 
-// Adds the numbers of those of these forms that one of the ranges supplies.
-fn add_forms(
+// Adds the numbers of those of these forms that one of the ranges supplies, but for some that don't begin:
+// a form of which none is left, or that the last one takes in that went in.
+fn add_forms<E: Ending>(
     numbers: &mut Vec<u64>,
+    ending: &E,
     ranges: &[Listen],
     entries: &[Filtered],
 ) -> Result<(), AllocError>
     requires order { IsSorted (by_form form_of) ranges.now }
     requires filtered { All (λ k. is_filtered k.form ≡ true) ranges.now }
     requires apart { AreApart form_of ranges.now }
-    ensures { OnOk result ((t : ℕ → Bool) → list_any t numbers.new.items
-        ≡ (list_any t numbers.old.items || list_any (λ e.
+    ensures { OnOk result ((t : ℕ → Bool) → IsOfTops (E.ended ending.now) entries.now t
+        → list_any t numbers.new.items ≡ (list_any t numbers.old.items || list_any (λ e.
         list_any (λ k. does_supply k.form e.0) ranges.now && list_any t e.1) entries.now)) }
 {
-    for entry in entries {
-        add_form(numbers, ranges, entry)?;
+    let mut last = None;
+    for place in 0..entries.len() {
+        if goes_in(ranges, entries, ending, place, last) {
+            numbers.extend_from_slice(entries[place].numbers())?;
+            last = Some(place);
+        }
     }
     Ok(())
 }
 
 // Adds the numbers of those whose forms the ranges of a path supply: they have its path. Goes over its forms
 // once, however many ranges there are.
-fn add_at(
+fn add_at<E: Ending>(
     numbers: &mut Vec<u64>,
     listeners: &Listeners,
+    ending: &E,
     path: &Path,
     ranges: &[Listen],
 ) -> Result<(), AllocError>
     requires order { IsSorted (by_form form_of) ranges.now }
     requires there { All (λ k. is_range_at path.now k ≡ true) ranges.now }
     requires apart { AreApart form_of ranges.now }
-    ensures { OnOk result ((t : ℕ → Bool) → list_any t numbers.new.items
+    ensures { OnOk result ((t : ℕ → Bool) → IsOfBeginners (E.ended ending.now) listeners.now t
+        → list_any t numbers.new.items
         ≡ (list_any t numbers.old.items || list_any (has_supplied listeners.now t) ranges.now)) }
 {
-    add_forms(numbers, ranges, listeners.filtered_at(path.keys()))
+    add_forms(numbers, ending, ranges, listeners.filtered_at(path.keys()))
 }
 
 // Adds the numbers of those whose forms a plain listen supplies: they stand at and under its path.
@@ -343,9 +364,10 @@ fn count_ranges(listens: &[Listen], path: &Path) -> usize
 
 // Adds the numbers of those whose forms the first of the listens supplies, or it and the other ranges of its
 // path that follow; how many listens these are.
-fn add_first(
+fn add_first<E: Ending>(
     numbers: &mut Vec<u64>,
     listeners: &Listeners,
+    ending: &E,
     listens: &[Listen],
 ) -> Result<usize, AllocError>
     requires forms { All (λ l. form l.1 ≡ l.1) listeners.now }
@@ -354,7 +376,8 @@ fn add_first(
     requires apart { AreApart form_of listens.now }
     ensures some { IfOk result (λ count. 0 < count) }
     ensures within { IfOk result (λ count. count ≤ length listens.now) }
-    ensures numbers { IfOk result (λ count. (t : ℕ → Bool) → list_any t numbers.new.items
+    ensures numbers { IfOk result (λ count. (t : ℕ → Bool)
+        → IsOfBeginners (E.ended ending.now) listeners.now t → list_any t numbers.new.items
         ≡ (list_any t numbers.old.items
         || list_any (has_supplied listeners.now t) (take count listens.now))) }
 {
@@ -365,26 +388,28 @@ fn add_first(
         add_under(numbers, listeners, first)?;
         return Ok(1);
     }
-    add_at(numbers, listeners, path, &listens[..count])?;
+    add_at(numbers, listeners, ending, path, &listens[..count])?;
     Ok(count)
 }
 
-// The numbers of those whose forms the listens supply, which stand in order.
-fn supplied(
+// The numbers of those whose forms the listens supply, which stand in order: of all that may begin.
+fn supplied<E: Ending>(
     alloc: Global,
     listeners: &Listeners,
+    ending: &E,
     listens: &[Listen],
 ) -> Result<Vec<u64>, AllocError>
     requires forms { All (λ l. form l.1 ≡ l.1) listeners.now }
     requires order { IsSorted (by_form form_of) listens.now }
     requires apart { AreApart form_of listens.now }
-    ensures { IfOk result (λ numbers. (t : ℕ → Bool) → list_any t numbers.items
+    ensures { IfOk result (λ numbers. (t : ℕ → Bool)
+        → IsOfBeginners (E.ended ending.now) listeners.now t → list_any t numbers.items
         ≡ list_any (has_supplied listeners.now t) listens.now) }
 {
     let mut numbers = Vec::new(alloc);
     let mut rest = listens;
     while !rest.is_empty() {
-        let count = add_first(&mut numbers, listeners, rest)?;
+        let count = add_first(&mut numbers, listeners, ending, rest)?;
         rest = behind(rest, count);
     }
     Ok(numbers)
@@ -404,7 +429,7 @@ pub(crate) fn numbers_begun<E: Ending>(
         ≡ list_any (begins_after (by_number (E.ended ending.now)) listeners.now p) lost.now) }
 {
     let ordered = in_order(alloc, lost)?;
-    let candidates = supplied(alloc, listeners, &ordered)?;
+    let candidates = supplied(alloc, listeners, ending, &ordered)?;
     let mut numbers = Vec::new(alloc);
     add_all(&mut numbers, listeners, ending, &candidates)?;
     Ok(numbers)

@@ -16,7 +16,7 @@ use crate::by_path::HasForm;
 use crate::ending::Ending;
 use crate::listener::Listener;
 use crate::listeners::Listeners;
-use crate::widest::{Widest, has_wider_in_front};
+use crate::widest::{Widest, count_in_front, has_wider_in_front};
 use rt_forms::Filtered;
 use rt_query::Query;
 use rt_tree::Key;
@@ -100,38 +100,34 @@ fn has_plain_above<E: Ending>(listeners: &Listeners, ending: &E, path: &[Key]) -
     false
 }
 
-// Whether it is another range, which takes in the query's.
-fn is_wider(form: &Query, query: &Query) -> bool
-    ensures { result ≡ (not (query_eq form.now query.now) && takes_in form.now query.now) }
-{
-    form != query && form.takes_in(query)
-}
-
-// Whether the form is another range, which takes in the query's, and a listener of it is left.
-fn is_wider_left<E: Ending>(entry: &Filtered, ending: &E, query: &Query) -> bool
-    ensures { result ≡ ((not (query_eq entry.now.0 query.now) && takes_in entry.now.0 query.now)
+// Whether the form takes in the query, and a listener of it is left.
+fn is_taker_left<E: Ending>(entry: &Filtered, ending: &E, query: &Query) -> bool
+    ensures { result ≡ (takes_in entry.now.0 query.now
         && list_any (λ m. not (E.ended ending.now m)) entry.now.1) }
 {
-    is_wider(entry.form(), query) && has_left(entry.numbers(), ending)
+    entry.form().takes_in(query) && has_left(entry.numbers(), ending)
 }
 
 // Whether that holds of one of these.
-fn has_wider_among<E: Ending>(entries: &[Filtered], ending: &E, query: &Query) -> bool
+fn has_taker_among<E: Ending>(entries: &[Filtered], ending: &E, query: &Query) -> bool
     ensures { result
-        ≡ list_any (λ e. (not (query_eq e.0 query.now) && takes_in e.0 query.now)
+        ≡ list_any (λ e. takes_in e.0 query.now
         && list_any (λ m. not (E.ended ending.now m)) e.1) entries.now }
 {
     entries
         .iter()
-        .any(|entry| is_wider_left(entry, ending, query))
+        .any(|entry| is_taker_left(entry, ending, query))
 }
 
-// Whether one has another range of the path, which takes in the query's, and is left.
+// Whether one has another range of the path, which takes in the query's, and is left. Of the forms of the
+// path those alone are asked that stand in front of the query's, and these are found by halving.
 fn has_wider<E: Ending>(listeners: &Listeners, ending: &E, query: &Query) -> bool
     ensures { result ≡ list_any (λ l. not (query_eq l.1 query.now) && takes_in l.1 query.now)
         (left (by_number (E.ended ending.now)) listeners.now) }
 {
-    has_wider_among(listeners.filtered_at(query.path().keys()), ending, query)
+    let entries = listeners.filtered_at(query.path().keys());
+    let count = count_in_front(entries, query);
+    has_taker_among(&entries[..count], ending, query)
 }
 
 // The same, by the widest ones, where those of the query's path are given.

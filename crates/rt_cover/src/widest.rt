@@ -8,7 +8,7 @@ ghost use Rattle.rt_query.specs.Queries.{is_filtered};
 ghost use Rattle.rt_query.specs.QueryEq.{query_eq};
 ghost use Rattle.rt_query.specs.Ranges.{takes_in};
 ghost use Rattle.rt_forms.specs.Order.{AreInOrder};
-ghost use Rattle.rt_cover.specs.inside.Widest.{Entry, is_taken_in_at, is_in_front};
+ghost use Rattle.rt_cover.specs.inside.Widest.{Entry, is_taken_in_at, is_wider_at, is_in_front};
 ghost use Rattle.rt_cover.specs.inside.Widest.{IsAmong, IsWidest, AreWidest};
 
 use crate::behind::has_left;
@@ -84,7 +84,7 @@ fn is_in_front(entry: &Filtered, query: &Query) -> bool
 }
 
 // How many forms do, by halving: all other ones that take in the query are among them.
-fn count_in_front(entries: &[Filtered], query: &Query) -> usize
+pub(crate) fn count_in_front(entries: &[Filtered], query: &Query) -> usize
     requires { AreInOrder entries.now }
     ensures within { result ≤ length entries.now }
     ensures point { IsPartitionPoint (λ e. is_in_front query.now e ≡ true)
@@ -100,6 +100,24 @@ fn takes_in_at(entries: &[Filtered], query: &Query, widest: Option<usize>) -> bo
 {
     match widest {
         Some(place) => entries[place].form().takes_in(query),
+        None => false,
+    }
+}
+
+// Whether it is another range, which takes in the query's.
+fn is_wider(form: &Query, query: &Query) -> bool
+    ensures { result ≡ (takes_in form.now query.now && not (query_eq form.now query.now)) }
+{
+    form.takes_in(query) && form != query
+}
+
+// Whether the form at the place is another one, which takes in the query.
+pub(crate) fn is_wider_at(entries: &[Filtered], query: &Query, widest: Option<usize>) -> bool
+    requires { IfSome widest (λ w. w < length entries.now) }
+    ensures { (d : Entry) → result ≡ is_wider_at entries.now d query.now widest }
+{
+    match widest {
+        Some(place) => is_wider(entries[place].form(), query),
         None => false,
     }
 }

@@ -1,6 +1,6 @@
 -- The listeners that a change ends, and those for which a listen starts then.
-use Rattle.std.specs.Prelude.{ℕ, Bool, false, ◌&&◌, ◌==◌, not, nat_lt, if◌then◌else◌, List}
-use Rattle.std.specs.List.{filter, find, list_any}
+use Rattle.std.specs.Prelude.{◌≡◌, ℕ, Bool, true, false, ◌&&◌, ◌==◌, not, nat_lt, if◌then◌else◌, List}
+use Rattle.std.specs.List.{filter, find, list_any, Contains}
 use Rattle.std.specs.Option.{option_map_or}
 use Rattle.rt_tree.specs.PathTree.{Path, path_eq}
 use Rattle.rt_query.specs.Queries.{Query, is_filtered}
@@ -73,6 +73,11 @@ abbrev pub begins_at : (Registered → Bool) → List Registered → (ℕ → Bo
 begins_at ends listeners p n =
     option_map_or (λ l. (not (ends l) && not (is_replaced ends listeners l)) && p n)
     (find (λ l. l.0 == n) listeners) false
+
+-- a test holds of the number of no listener but of one for whom a listen starts
+abbrev pub IsOfBeginners : (ℕ → Bool) → List Registered → (ℕ → Bool) → Type 0
+IsOfBeginners ended listeners t = (l : Registered) → Contains listeners l → t l.0 ≡ true
+    → (ended l.0 ≡ false) × (is_replaced (by_number ended) listeners l ≡ false)
 
 -- a listen that starts, by its tag and its listener, and as it is told
 abbrev pub tagged_of : ℕ × Registered → Tagged

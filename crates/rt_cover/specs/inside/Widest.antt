@@ -1,9 +1,10 @@
 -- Of the filtered forms of a path the widest ones that are left: where the widest of those up to a place stands.
-use Rattle.std.specs.Prelude.{◌≡◌, ◌+◌, ◌<◌, ◌&&◌, ℕ, Bool, false, not, List, length, take, slice_index_or, Option, Some, None, IfSome}
-use Rattle.std.specs.List.{list_any, All, AllWithin}
+use Rattle.std.specs.Prelude.{◌≡◌, ◌+◌, ◌<◌, ◌&&◌, ℕ, Bool, true, false, not, List, length, take, slice_index_or, Option, Some, None, IfSome}
+use Rattle.std.specs.List.{list_any, All, AllWithin, Contains}
 use Rattle.std.specs.Ordering.{is_lt, is_gt}
 use Rattle.rt_tree.specs.PathTree.{Path, path_eq}
 use Rattle.rt_query.specs.Queries.{Query, is_filtered}
+use Rattle.rt_query.specs.QueryEq.{query_eq}
 use Rattle.rt_query.specs.QueryOrder.{query_cmp, unlimited}
 use Rattle.rt_query.specs.Ranges.{takes_in}
 use Rattle.rt_forms.specs.Order.{AreInOrder}
@@ -25,6 +26,21 @@ is_taken_in ended q es = list_any (λ e. takes_in e.0 q && has_left ended e) es
 abbrev pub is_taken_in_at : List Entry → Entry → Query → Option ℕ → Bool
 is_taken_in_at es d q None = false
 is_taken_in_at es d q (Some w) = takes_in (slice_index_or es w d).0 q
+
+-- whether the form at a place is another one that takes it in
+abbrev pub is_wider_at : List Entry → Entry → Query → Option ℕ → Bool
+is_wider_at es d q None = false
+is_wider_at es d q (Some w) = takes_in (slice_index_or es w d).0 q && not (query_eq (slice_index_or es w d).0 q)
+
+-- whether the form at another place, if any, doesn't take in that at the place, and this one is left
+abbrev pub leads : (ℕ → Bool) → List Entry → Entry → ℕ → Option ℕ → Bool
+leads ended es d place o =
+    not (is_wider_at es d (slice_index_or es place d).0 o) && has_left ended (slice_index_or es place d)
+
+-- a test holds of a number of no form that isn't left, or that another one takes in which is left
+abbrev pub IsOfTops : (ℕ → Bool) → List Entry → (ℕ → Bool) → Type 0
+IsOfTops ended es t = (e : Entry) → Contains es e → list_any t e.1 ≡ true → (has_left ended e ≡ true)
+    × ((f : Entry) → Contains es f → has_left ended f ≡ true → (takes_in f.0 e.0 && not (query_eq f.0 e.0)) ≡ false)
 
 -- no form of the first ones stands further than the query would without its limit
 abbrev pub AreUpTo : List Entry → Query → ℕ → Type 0

@@ -6,7 +6,7 @@ use Rattle.rt_cover.proofs.SuppliedLaws.{no_range, apart_fewer, any_take}
 use Rattle.rt_cover.proofs.beginning.add_first.Goals as goal
 
 pub add_under-requires-clause-plain : goal.add_under-requires-clause-plain
-add_under-requires-clause-plain c =
+add_under-requires-clause-plain g c =
     let ks : List Tagged = c.args.listens.now in
     let k : Tagged = c.index-listens-0.result in
     let p = c.path-path.result.now in
@@ -18,5 +18,5 @@ add_under-requires-clause-plain c =
     no_range k p path (ap (is_range_at p) is ∙ next)
 
 pub add_at-requires-clause-apart : goal.add_at-requires-clause-apart
-add_at-requires-clause-apart c =
+add_at-requires-clause-apart g c =
     apart_fewer form_of c.args.listens.now (take c.count_ranges-count.result c.args.listens.now) (any_take c.count_ranges-count.result c.args.listens.now) c.requires.apart

@@ -7,6 +7,7 @@ use Rattle.rt_cover.proofs.CountLaws.{same_any}
 use Rattle.rt_cover.proofs.HeldLaws.{supplied_begin}
 use Rattle.rt_cover.proofs.StartLaws.{list_any_agreeing}
 use Rattle.rt_cover.proofs.SuppliedLaws.{apart_fewer, any_same}
+use Rattle.rt_cover.proofs.TopLaws.{of_beginners}
 use Rattle.rt_cover.proofs.beginning.numbers_begun.Goals as goal
 
 pub supplied-requires-clause-apart : goal.supplied-requires-clause-apart
@@ -22,7 +23,7 @@ returns g c = λ p.
     c.in_ok-add_all.ensures p
     ∙ ap (λ (ns : List ℕ). list_any p ns || list_any begins c.deref-2.result.now) c.new-numbers.ensures.items
     ∙ ap (list_any begins) c.deref-2.ensures.value
-    ∙ c.in_ok-candidates.ensures begins
+    ∙ c.in_ok-candidates.ensures begins (of_beginners (g.E.Ending.ended c.args.ending.now) ls c.requires.rise p)
     ∙ ap (list_any (has_supplied ls begins)) c.deref.ensures.value
     ∙ same_any (has_supplied ls begins) c.in_ok-ordered.ordered.items c.args.lost.now c.in_ok-ordered.ensures.same
     ∙ list_any_agreeing (has_supplied ls begins) (begins_after ends ls p) c.args.lost.now (supplied_begin ends ls c.requires.rise p)
