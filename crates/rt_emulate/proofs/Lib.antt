@@ -3,6 +3,5 @@ mod Begun
 mod CrowdLaws
 mod LeavingLaws
 mod Parameters
-mod PlainLaws
 mod Sockets
 mod Texts

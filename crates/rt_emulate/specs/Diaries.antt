@@ -10,7 +10,7 @@ use Rattle.rt_emulate.specs.declared.level.Level.{Level}
 use Rattle.rt_emulate.specs.declared.level.Kind.{Kind}
 use Rattle.rt_emulate.specs.declared.diary.TheConstants.{MOST_BYTES}
 use Rattle.rt_emulate.specs.Levels.{says, word_of}
-use Rattle.rt_emulate.specs.Plains.{plain}
+use Rattle.rt_input.specs.Plains.{plain}
 
 -- ---- times
 

@@ -6,7 +6,6 @@
 --     Asked      which requests by plain HTTP are let in
 --     Faults     the numbers and names of faults
 --     Levels     which lines it says of itself
---     Plains     a text as such a line shows it
 --     Diaries    these lines, until they are written
 -- laws/ has rows that the prover computes (Examples); inside/ has what only the code's own functions need.
 pub mod Asked
@@ -18,5 +17,4 @@ pub mod inside
 pub mod laws
 pub mod Levels
 pub mod Origins
-pub mod Plains
 pub mod Protocols

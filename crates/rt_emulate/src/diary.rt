@@ -7,9 +7,8 @@ ghost use Rattle.std.specs.Result.{result_ok};
 ghost use Rattle.rt_emulate.specs.declared.level.Kind.TheVariants as kinds;
 
 use crate::level::{Kind, Level};
-use crate::plain::plain;
 use crate::stamp::{Stamp, stamp};
-use rt_input::{LOG_PREFIX, Log};
+use rt_input::{LOG_PREFIX, Log, push_plain};
 use std::alloc::{AllocError, AllocGlobal, Global};
 use std::marker::Model;
 use std::rt::Clock;
@@ -66,14 +65,13 @@ impl Model for Diary {
 fn line_of(alloc: Global, kind: Kind, time: &Stamp, text: &str) -> Result<Vec<u8>, AllocError>
     ensures { IfOk result (λ line. line.items ≡ line_of kind time.now text.now) }
 {
-    let text = plain(alloc, text)?;
     let mut line = Vec::new(alloc);
     line.extend_from_slice(LOG_PREFIX.as_bytes())?;
     line.extend_from_slice(time)?;
     line.extend_from_slice(b" [")?;
     line.extend_from_slice(kind.word().as_bytes())?;
     line.extend_from_slice(b"] ")?;
-    line.extend_from_slice(text.as_bytes())?;
+    push_plain(&mut line, text)?;
     line.extend_from_slice(b"\n")?;
     Ok(line)
 }

@@ -1,12 +1,11 @@
 -- Handshakes that the prover judges: origins as browsers write them, and such as none writes; what a Firebase
--- SDK asks for, and what it doesn't. Characters that a line shows, and those that a terminal obeys.
+-- SDK asks for, and what it doesn't.
 use Rattle.std.specs.Prelude.{◌≡◌, List, [], ◌∷◌, ℕ, true, false, Some, None, codes, map}
 use Rattle.std.specs.List.{list_all, list_any}
 use Rattle.std.specs.Option.{is_none}
 use Rattle.rt_emulate.specs.Origins.{origin_fault}
 use Rattle.rt_emulate.specs.declared.allowing.OriginFault.TheVariants.{UpperCase, NoScheme, NoHost, Behind}
 use Rattle.rt_emulate.specs.declared.allowing.OriginFault.TheVariants.{BadLetter, BadPort}
-use Rattle.rt_emulate.specs.Plains.{is_hidden, plain_of}
 use Rattle.rt_emulate.specs.Protocols.{is_of_sdk}
 
 abbrev pub app : List ℕ
@@ -48,18 +47,3 @@ OthersAreNoSdks =
     (list_any (λ query. is_of_sdk (codes "/.ws") (Some query)) other_queries ≡ false)
     × (list_any (λ path. is_of_sdk path (Some (codes "v=5&ns=demo"))) (codes "/" ∷ codes "/.wsx" ∷ codes "/a/.ws" ∷ [])
     ≡ false) × (is_of_sdk (codes "/.ws") None ≡ false)
-
--- a line feed, escape, delete, the control sequence introducer of C1, the end of a line, overrides and isolates
-abbrev pub HiddenOnes : Type 0
-HiddenOnes =
-    list_all is_hidden (10 ∷ 27 ∷ 127 ∷ 128 ∷ 155 ∷ 159 ∷ 0x61C ∷ 0x200E ∷ 0x2028 ∷ 0x202A ∷ 0x202E ∷ 0x2066 ∷ 0x2069 ∷ []) ≡ true
-
--- a blank, ~, a blank that doesn't break, é, the joiner of signs, 中, and a sign of two units of UTF-16
-abbrev pub ShownOnes : Type 0
-ShownOnes =
-    list_any is_hidden (32 ∷ 126 ∷ 160 ∷ 233 ∷ 0x200D ∷ 0x202F ∷ 0x2065 ∷ 0x206A ∷ 0x4E2D ∷ 0x1F600 ∷ []) ≡ false
-
-abbrev pub NumberedOnes : Type 0
-NumberedOnes =
-    map plain_of (97 ∷ 155 ∷ 0x202E ∷ [])
-    ≡ codes "a" ∷ codes "\\u{9b}" ∷ codes "\\u{202e}" ∷ []
