@@ -11,6 +11,8 @@ from parts import ROOT, Clock, part, some_of
 from rows import PROGRAMS, builds_of, rows
 
 NO_MEMORY = b"kaltewi: out of memory\n"
+# what the console says of it: itself, by clap, and of a line that is to be printed
+SAID = NO_MEMORY, b"error: out of memory\n", b"kaltewi: the output can't be written: out of memory\n"
 LACKING, REFUSED = b"NoMemory\n", b"refused\n"
 MOST, SOME = 2000, 100  # of more than so many allocations of a row only some are refused, but where all are to be
 AT_ONCE = 200  # how many are refused in one task
@@ -41,7 +43,7 @@ def told_by_console(row, ended):
     status, out, err = ended
     if row.status == 2 and status == 2:
         return not out and err.startswith(row.err.partition(b"\n")[0])
-    return status == 1 and (row.out or b"").startswith(out) and err in (NO_MEMORY, b"error: out of memory\n")
+    return status == 1 and (row.out or b"").startswith(out) and err in SAID
 
 
 def told_by_calls(row, ended):

@@ -5,6 +5,7 @@ import fcntl
 import os
 import pty
 import re
+import select
 import shutil
 import signal
 import struct
@@ -235,17 +236,19 @@ exec "$@"
 
 
 def terminal_runs(runs):
-    """At a terminal a program that takes lines is asked to say more. If the terminal has a width, `watch` is asked to keep to it, and rlwrap
-    reads the lines."""
+    """At a terminal a program that takes lines is asked to say more, and to escape what steers a terminal. If the terminal has a width, `watch` is
+    asked to keep to it, and rlwrap reads the lines."""
     write(f"{runs.room}/bin/rlwrap", RLWRAP)
     os.chmod(f"{runs.room}/bin/rlwrap", 0o755)
     cases = (
-        ("script", 80, "--verbose"),
-        ("connect -v 8080", 80, "8080"),
+        ("script", 80, "--escape"),
+        ("script --escape", 80, "--verbose"),
+        ("connect -v 8080", 80, "--escape"),
+        ("connect --escape -v 8080", 80, "8080"),
         ("watch 8080", 80, "80"),
-        ("watch 8080 --width 9", 80, "--verbose"),
-        ("watch 8080 --changes", 80, "--verbose"),
-        ("watch 8080", 0, "--verbose"),
+        ("watch 8080 --width 9", 80, "--escape"),
+        ("watch 8080 --changes", 80, "--escape"),
+        ("watch 8080", 0, "--escape"),
     )
     for words, width, last in cases:
         ours, theirs = pty.openpty()
@@ -258,7 +261,10 @@ def terminal_runs(runs):
         os.write(ours, b"\4")
         status = one.wait(60)
         wrapped = "rlwrap -H /dev/null\n" if width else ""
-        runs.judge(f"{words}, at a terminal of width {width}", (status, os.read(ours, 65536), b""), (0, f"{wrapped}{last}\na fault\n".encode()), [])
+        said = b""
+        while select.select([ours], [], [], 0.2)[0]:
+            said += os.read(ours, 65536)
+        runs.judge(f"{words}, at a terminal of width {width}", (status, said, b""), (0, f"{wrapped}{last}\na fault\n".encode()), [])
         os.close(theirs)
         os.close(ours)
     os.remove(f"{runs.room}/bin/rlwrap")

@@ -16,8 +16,8 @@ PROGRAMS = {
 
 
 class Row:
-    """A run of a program, the console or one of calls: NAME.script is its input and NAME.out what it prints, and where there are such files NAME.args its words, one a line,
-    in place of 'script', NAME.status its exit status, and NAME.err what it says on standard error. NAME.unsaid is how many of its allocations may be refused and no
+    """A run of a program, the console or one of calls: NAME.script is its input, empty where there is none, and NAME.out what it prints, and where there are such files NAME.args
+    its words, one a line, in place of 'script', NAME.status its exit status, and NAME.err what it says on standard error. NAME.unsaid is how many of its allocations may be refused and no
     answer shows it: those for the copy of a seat's call that the core refuses, those for the tree beside the pending writes, which is given
     up, those for the room that the list of a new view's children asks for at once, in whose place it grows bit by bit, and those for the sorted
     tags of a push of more than 64 parts and the sorted entries of a write of more than 8, in whose place each is compared with each."""
@@ -28,7 +28,7 @@ class Row:
         self.words = args.split(b"\n")[:-1] if args is not None else [] if name.startswith("tests/calls/") else [b"script"]
         self.status, self.err = int(self.bytes_of("status") or b"0"), self.bytes_of("err") or b""
         self.unsaid = int(self.bytes_of("unsaid") or b"0")
-        self.is_whole = (self.script is None) != (args is None) and (self.out is not None or args is not None)
+        self.is_whole = args is not None or (self.script is not None and self.out is not None)
 
     def bytes_of(self, ending):
         try:
@@ -62,7 +62,7 @@ def builds_of(copy, name):
 def rows_part(copy, name):
     """The rows of a program, by both of its builds."""
     clock, builds, all_rows = Clock(), builds_of(copy, name), rows(*PROGRAMS[name])
-    wrong = [f"{it.name} has no .out, or a script beside .args" for it in all_rows if not it.is_whole]
+    wrong = [f"{it.name} has neither .args nor both .script and .out" for it in all_rows if not it.is_whole]
     wrong += [f"{text} ({os.path.basename(program)})" for it in all_rows for program in builds for text in [it.wrong(program)] if text]
     if len(builds) != 2:
         wrong.append(f"{name} was built by {len(builds)} compilers, not by two")

@@ -7,7 +7,7 @@ import endings
 from frames import CLOSED, SECONDS, Server, free_port
 from lines import ROW, ROW_OUT, ROW_STEPS
 from runs import differs
-from session import SESSIONS, data, goes, hears, listen, ok, put, session, stop
+from session import SESSIONS, data, goes, hears, leaves, listen, ok, put, session, stop
 
 assert endings  # it adds its sessions where it is read
 ROOT = os.path.dirname(os.path.dirname(os.path.dirname(os.path.realpath(__file__))))
@@ -44,6 +44,23 @@ def full_output(server):
     """An output that can't be written ends the run."""
     server.welcome()
     yield from goes(server, listen("/a", 1))
+
+
+# what a terminal obeys in a text, as it is and by its numbers
+OBEYED, NUMBERED = "\x7f\x9b31m\u202e\u2066", r"\u007f\u009b31m\u202e\u2066"
+
+
+def shown(server):
+    """What a terminal obeys is printed as it is or, with --escape, by its number."""
+    server.welcome()
+    yield hears(server, listen("/a", 1))
+    server.send(data("/a", 1, OBEYED))
+    yield from leaves(server)
+
+
+ROW_OF_TEXT = '["listen",1,"/a",[]]\n["read",1]\n'
+session(ROW_OF_TEXT, f'done 1\ndone\nL1 value "{OBEYED}"\n')(shown)
+session(ROW_OF_TEXT, f'done 1\ndone\nL1 value "{NUMBERED}"\n', words=("--escape",))(shown)
 
 
 def prompt(program):
@@ -128,6 +145,7 @@ WORDS = {
     ("",): "error: invalid value '' for '<PORT>': cannot parse integer from empty string\n",
     ("8080", "8081"): "error: unexpected argument '8081' found\n",
     ("8080", "--count", "2"): "error: unexpected argument '--count' found\n",
+    ("8080", "--escape=1"): "error: unexpected value '1' for '--escape' found; no more were expected\n",
     ("--tree", "1", "8080"): "error: unexpected argument '--tree' found\n",
 }
 

@@ -584,7 +584,7 @@ def lines_have_one_form(program, _room):
     for start, level in levels.items():
         must(f"the level of {start!r}", {one[1] for one in found if one[2].startswith(start)}, {level})
     texts = [one[2] for one in found if "NotJson" in one[2]]
-    must("a text that turns letters", texts, [r"connection 1: a text is passed over: 1 NotJson: a\u{202e}b c\u{2028}"])
+    must("a text that turns letters", texts, [r"connection 1: a text is passed over: 1 NotJson: a\u202eb c\u2028"])
     for line in it.saying.lines:
         said = calendar.timegm(time.strptime(line[9:29].decode(), "%Y-%m-%dT%H:%M:%SZ"))
         must("whether the time is right", begun - 2 <= said <= time.time() + 2, True)

@@ -386,6 +386,24 @@ def values_are_shaped(program):
             one.prints(f"a view {words}", f'row "x" "{LONG}"\nrefused core 2 UnknownListener\n')
 
 
+# what a terminal obeys in a text, as it is and by its numbers
+OBEYED, NUMBERED = "\x7f\x9b31m\u202e\u2066", r"\u007f\u009b31m\u202e\u2066"
+
+
+def texts_are_escaped(program):
+    """What a terminal obeys is printed as it is or, with --escape, by its number, also where a value is cut."""
+    for words, text, value in (
+        ([], OBEYED, f'L1 value {{"x":"{OBEYED}{LONG}"}}\n'),
+        (["--escape"], NUMBERED, f'L1 value {{"x":"{NUMBERED}{LONG}"}}\n'),
+        (["--escape", "--width", "62"], NUMBERED, f'L1 value {{"x":"{NUMBERED}é .. (100 bytes)\n'),
+        (["--changes", "--escape"], NUMBERED, ""),
+    ):
+        with Emulator(program) as it, Watch(program, it.port, *words, lines=LISTENS) as one:
+            one.prints(f"a listen {words}", "done 1\n" + ("" if "--changes" in words else "L1 value null\n"))
+            one.type(f'["set",1,"/a/x","{NUMBERED}{LONG}"]\n')
+            one.prints(f"a write {words}", f'done 1\nL1 added "x" "{text}{LONG}" after none\n{value}R1 ok\n')
+
+
 def it_pushes(program):
     """A value is written below a path by a push id, which is printed; ids rise. A word that is refused is told in words."""
     with Emulator(program) as it, Watch(program, it.port, "-v", lines="") as one:
@@ -485,6 +503,7 @@ SESSIONS = [
     it_connects_again,
     once_it_connects,
     values_are_shaped,
+    texts_are_escaped,
     it_pushes,
     no_connection,
     failing_streams,
@@ -498,6 +517,7 @@ WORDS = {
     ("8080", "--idle", "0"): "error: invalid value '0' for '--idle <MS>': 0 is not in 1..=65535\n",
     ("8080", "--idle", "65536"): "error: invalid value '65536' for '--idle <MS>': 65536 is not in 1..=65535\n",
     ("8080", "8081"): "error: unexpected argument '8081' found\n",
+    ("8080", "--escape", "--escape"): "error: the argument '--escape' cannot be used multiple times\n",
     ("8080", "--width", "0"): "error: invalid value '0' for '--width <N>': 0 is not in 1..=65535\n",
 }
 

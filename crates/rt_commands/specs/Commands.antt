@@ -51,9 +51,13 @@ verbose_rule = record (flag_rule (codes "verbose")) { short = Some 118 }
 abbrev pub quiet_rule : Rule
 quiet_rule = record (flag_rule (codes "quiet")) { short = Some 113 }
 
--- `script [-v]`
+-- `--escape`
+abbrev pub escape_rule : Rule
+escape_rule = flag_rule (codes "escape")
+
+-- `script [--escape] [-v]`
 abbrev pub script_app : App
-script_app = with_rule (new_app (codes "script")) verbose_rule
+script_app = with_rule (with_rule (new_app (codes "script")) escape_rule) verbose_rule
 
 -- `serve PORT [--count N] [--tree JSON] [--deny PATH] [-v]`
 abbrev pub serve_app : App
@@ -72,15 +76,15 @@ emulate_app = with_rule (with_rule (with_rule (with_rule (with_rule (with_rule b
     (texts_rule (codes "origin"))) (number_rule (codes "count"))) (flag_rule (codes "until-eof")))
     (text_rule (codes "log"))) quiet_rule) verbose_rule
 
--- `connect PORT [-v]`
+-- `connect PORT [--escape] [-v]`
 abbrev pub connect_app : App
-connect_app = with_rule (with_rule (new_app (codes "connect")) port_rule) verbose_rule
+connect_app = with_rule (with_rule (with_rule (new_app (codes "connect")) port_rule) escape_rule) verbose_rule
 
--- `watch PORT [--idle MS] [--once] [--changes] [--width N] [-v]`
+-- `watch PORT [--idle MS] [--once] [--changes] [--width N] [--escape] [-v]`
 abbrev pub watch_app : App
-watch_app = with_rule (with_rule (with_rule (with_rule (with_rule (with_rule (new_app (codes "watch")) port_rule)
-    (number_rule (codes "idle"))) (flag_rule (codes "once"))) (flag_rule (codes "changes")))
-    (number_rule (codes "width"))) verbose_rule
+watch_app = with_rule (with_rule (with_rule (with_rule (with_rule (with_rule (with_rule (new_app (codes "watch"))
+    port_rule) (number_rule (codes "idle"))) (flag_rule (codes "once"))) (flag_rule (codes "changes")))
+    (number_rule (codes "width"))) escape_rule) verbose_rule
 
 -- `script`, `serve`, `emulate`, `connect` and `watch`
 abbrev pub console_app : App

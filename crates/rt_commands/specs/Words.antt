@@ -165,14 +165,18 @@ work_of (Some (name, rows)) =
 abbrev pub asked : List (List ℕ) → Option Work
 asked words = work_of (subcommand_of console_app words)
 
--- whether a subcommand is to say more, by its name and its entries
-abbrev pub verbose_in : Option (List ℕ × List Row) → Bool
-verbose_in None = false
-verbose_in (Some (name, rows)) = flag_of (one_of (codes "verbose") rows)
+-- whether a subcommand was given a flag, by the subcommand's name and its entries
+abbrev pub flag_in : List ℕ → Option (List ℕ × List Row) → Bool
+flag_in flag None = false
+flag_in flag (Some (name, rows)) = flag_of (one_of flag rows)
 
 -- whether words ask that more be said
 abbrev pub is_verbose : List (List ℕ) → Bool
-is_verbose words = verbose_in (subcommand_of console_app words)
+is_verbose words = flag_in (codes "verbose") (subcommand_of console_app words)
+
+-- whether words ask that what a terminal obeys be printed by its number
+abbrev pub is_escaped : List (List ℕ) → Bool
+is_escaped words = flag_in (codes "escape") (subcommand_of console_app words)
 
 -- the value, or where there is none an error that says so; or one for want of memory
 abbrev pub Gives : {T : Type 0} → Option T → Result T Error → Type 0

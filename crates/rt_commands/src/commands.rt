@@ -94,6 +94,9 @@ const COUNT: &str = "How many connections are served, from 1 to 65535";
 
 const VERBOSE: &str = "Says on standard error what happens; standard output stays as it is";
 
+const ESCAPE: &str = "\
+Prints control characters, and marks of the order of letters, by their numbers, as \\u009b";
+
 const CONNECT: &str = "\
 Connects a client to 127.0.0.1:PORT over a WebSocket, and drives it by lines from standard input";
 
@@ -295,6 +298,7 @@ fn script_command<'a>(alloc: Global) -> Result<Command<'a>, AllocError>
     let command = Command::new(alloc, "script")
         .about(SCRIPT)
         .after_help(LINES)
+        .arg(flag_arg(alloc, "escape", ESCAPE))?
         .arg(verbose_arg(alloc, VERBOSE))?;
     Ok(command)
 }
@@ -392,6 +396,7 @@ fn connect_command<'a>(alloc: Global) -> Result<Command<'a>, AllocError>
         .about(CONNECT)
         .after_help(DRIVING)
         .arg(port_arg(alloc))?
+        .arg(flag_arg(alloc, "escape", ESCAPE))?
         .arg(verbose_arg(alloc, VERBOSE))?;
     Ok(command)
 }
@@ -409,6 +414,7 @@ fn watch_command<'a>(alloc: Global) -> Result<Command<'a>, AllocError>
         .arg(flag_arg(alloc, "once", ONCE))?
         .arg(flag_arg(alloc, "changes", CHANGES))?
         .arg(number_arg(alloc, "width", "N", WIDTH))?
+        .arg(flag_arg(alloc, "escape", ESCAPE))?
         .arg(verbose_arg(alloc, VERBOSE))?;
     Ok(command)
 }

@@ -6,7 +6,7 @@
 //!
 //! ```
 //! let bad_lines = run_script(alloc, &mut reader, &mut writer)?;   // a script over one new core
-//! let Asked { work, verbose } = read_words(alloc, &words)?;       // what a command line asks for
+//! let Asked { work, .. } = read_words(alloc, &words)?;            // what a command line asks for
 //! ```
 //!
 //! The words are read by `clap`, and a tree or a path among them by `rt_tree`.

@@ -6,10 +6,10 @@ ghost use Rattle.clap.specs.Values.{kind_of};
 ghost use Rattle.rt_emulate.specs.Levels.{level_of};
 ghost use Rattle.rt_commands.specs.Hosts.{host_of, ip_of};
 ghost use Rattle.rt_commands.specs.Words.{all_texts, asked, count_of, denied_of, emulation_of, faults_of};
-ghost use Rattle.rt_commands.specs.Words.{flag_of, Gives, GivesAll, GivesWork, is_lenient, is_verbose};
+ghost use Rattle.rt_commands.specs.Words.{flag_in, flag_of, Gives, GivesAll, GivesWork, is_escaped, is_lenient, is_verbose};
 ghost use Rattle.rt_commands.specs.Words.{GivesText, GivesTexts, IsExplained, origin_of, origins_of};
 ghost use Rattle.rt_commands.specs.Words.{live_of, logging_of, number_of, other_of, path_of, paths_of};
-ghost use Rattle.rt_commands.specs.Words.{served_of, serving_of, status_of, tree_of, unnamed_level, verbose_in};
+ghost use Rattle.rt_commands.specs.Words.{served_of, serving_of, status_of, tree_of, unnamed_level};
 ghost use Rattle.rt_commands.specs.Words.{watch_of, watching_of, work_of};
 
 use crate::commands::{PROGRAM, console_command, emulate_command, serve_command};
@@ -66,10 +66,12 @@ pub enum Work {
     },
 }
 
-/// What the command line asks for, and whether more is to be said of it on the standard error.
+/// What the command line asks for, whether what a terminal obeys is to be printed by its number, and whether
+/// more is to be said on the standard error.
 #[derive(Debug, Drop)]
 pub struct Asked {
     pub work: Work,
+    pub is_escaped: bool,
     pub verbose: bool,
 }
 
@@ -496,12 +498,12 @@ fn read_work(alloc: Global, matches: &ArgMatches<'_>) -> Result<Work, Error>
     }
 }
 
-// Whether more is to be said.
-fn read_verbose(matches: &ArgMatches<'_>) -> bool
-    ensures { result ≡ verbose_in (subcommand_rows_of matches.now) }
+// Whether the subcommand was given the flag of that name.
+fn flag_in(matches: &ArgMatches<'_>, name: &str) -> bool
+    ensures { result ≡ flag_in name.now (subcommand_rows_of matches.now) }
 {
     match matches.subcommand() {
-        Some((_, entries)) => flag(entries, "verbose"),
+        Some((_, entries)) => flag(entries, name),
         None => false,
     }
 }
@@ -509,18 +511,24 @@ fn read_verbose(matches: &ArgMatches<'_>) -> bool
 // What the matches ask for.
 fn read_asked(alloc: Global, matches: &ArgMatches<'_>) -> Result<Asked, Error>
     ensures work { GivesWork (work_of (subcommand_rows_of matches.now)) result }
+    ensures escaped { IfOk result (λ asked.
+        asked.is_escaped ≡ flag_in (codes "escape") (subcommand_rows_of matches.now)) }
     ensures verbose { IfOk result (λ asked.
-        asked.verbose ≡ verbose_in (subcommand_rows_of matches.now)) }
+        asked.verbose ≡ flag_in (codes "verbose") (subcommand_rows_of matches.now)) }
 {
     let work = read_work(alloc, matches)?;
-    let verbose = read_verbose(matches);
-    Ok(Asked { work, verbose })
+    Ok(Asked {
+        work,
+        is_escaped: flag_in(matches, "escape"),
+        verbose: flag_in(matches, "verbose"),
+    })
 }
 
 // Reads the words behind the program's name, with an error in clap's form.
 fn command_line<'a, S: AsStr>(alloc: Global, words: &'a [S]) -> Result<Asked, Error>
     ensures fails { FailsBy (faults_of (map S.text words.entry.now)) result }
     ensures work { IfOk result (λ a. asked (map S.text words.entry.now) ≡ Some a.work) }
+    ensures escaped { IfOk result (λ a. a.is_escaped ≡ is_escaped (map S.text words.entry.now)) }
     ensures verbose { IfOk result (λ a. a.verbose ≡ is_verbose (map S.text words.entry.now)) }
 {
     let command = console_command(alloc)?;
@@ -534,6 +542,7 @@ fn command_line<'a, S: AsStr>(alloc: Global, words: &'a [S]) -> Result<Asked, Er
 pub fn read_words<'a, S: AsStr>(alloc: Global, words: &'a [S]) -> Result<Asked, ConsoleError>
     ensures ok { OnOk result (faults_of (map S.text words.entry.now) ≡ []) }
     ensures work { IfOk result (λ a. asked (map S.text words.entry.now) ≡ Some a.work) }
+    ensures escaped { IfOk result (λ a. a.is_escaped ≡ is_escaped (map S.text words.entry.now)) }
     ensures verbose { IfOk result (λ a. a.verbose ≡ is_verbose (map S.text words.entry.now)) }
     ensures fault { IfErr result (λ e.
         (e ≡ ConsoleError.NoMemory)

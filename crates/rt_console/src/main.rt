@@ -30,9 +30,9 @@ fn say_fault<E: Display>(rt: &HostRuntime, fault: &E) -> u8 {
 
 // Runs the script of the standard input, and answers the exit status: 1 where a fault or a bad line was
 // printed.
-fn status_of_script<L: Log>(rt: &HostRuntime, log: &mut L) -> u8 {
+fn status_of_script<L: Log>(rt: &HostRuntime, shape: Shape, log: &mut L) -> u8 {
     let mut reader = Reading::new(rt.stdin());
-    let mut writer = Writing::new(rt.stdout());
+    let mut writer = Writing::new(Showing::new(rt.alloc(), rt.stdout(), shape));
     match run_logged(rt.alloc(), &mut reader, &mut writer, log) {
         Ok(0) => 0,
         Ok(_) => 1,
@@ -113,10 +113,11 @@ fn status_of_connection<R: Net + Wait + RandomSource, L: Log>(
     rt: &R,
     system: &HostRuntime,
     port: u16,
+    shape: Shape,
     log: &mut L,
 ) -> u8 {
     let mut reader = Reading::new(system.stdin());
-    let mut writer = Writing::new(system.stdout());
+    let mut writer = Writing::new(Showing::new(system.alloc(), system.stdout(), shape));
     match connect(rt, system.alloc(), port, &mut reader, &mut writer, log) {
         Ok(0) => 0,
         Ok(_) => 1,
@@ -150,16 +151,16 @@ fn status_of_watching<
 fn status_of_work<
     R: Net + Wait + Threads + Clock + RandomSource + Clone + Drop + Send + 'static,
     L: Log,
->(rt: &R, system: &HostRuntime, work: Work, log: &mut L) -> u8 {
+>(rt: &R, system: &HostRuntime, work: Work, shape: Shape, log: &mut L) -> u8 {
     match work {
-        Work::Script => status_of_script(system, log),
+        Work::Script => status_of_script(system, shape, log),
         Work::Serve(serving) => status_of_serving(rt, system, serving, log),
         Work::Emulate {
             emulating,
             ends_with_input,
             level,
         } => status_of_emulating(rt, system, emulating, ends_with_input, level),
-        Work::Connect { port } => status_of_connection(rt, system, port, log),
+        Work::Connect { port } => status_of_connection(rt, system, port, shape, log),
         Work::Watch {
             port,
             idle,
@@ -175,6 +176,7 @@ fn status_of_work<
             let shape = Shape {
                 changes_only,
                 width,
+                ..shape
             };
             status_of_watching(rt, system, watching, shape, log)
         }
@@ -187,12 +189,17 @@ fn status_of_asked<R: Net + Wait + Threads + Clock + RandomSource + Clone + Drop
     system: &HostRuntime,
     asked: Asked,
 ) -> u8 {
-    let Asked { work, verbose } = asked;
+    let Asked {
+        work,
+        is_escaped,
+        verbose,
+    } = asked;
+    let shape = Shape::whole(is_escaped);
     if verbose {
         let mut log = Telling::new(system.alloc(), system.stderr());
-        status_of_work(rt, system, work, &mut log)
+        status_of_work(rt, system, work, shape, &mut log)
     } else {
-        status_of_work(rt, system, work, &mut Silent)
+        status_of_work(rt, system, work, shape, &mut Silent)
     }
 }
 

@@ -1,9 +1,10 @@
-// What is printed of a client that is watched, as a person wants it: without whole values, or with long ones
-// cut.
+// What is printed, as a person wants it: without what a terminal obeys and, of a client that is watched, without
+// whole values, or with long ones cut.
 ghost use Rattle.std.specs.Prelude.{◌≡◌, ◌≤◌, ◌++◌, ◌∷◌, [], None, false, true, length, option_map};
 ghost use Rattle.std.specs.Prelude.{IfSome, OnOk};
-ghost use Rattle.rt_console.specs.Shown.{value_behind, value_in, value_of};
+ghost use Rattle.rt_console.specs.Shown.{text_as, value_behind, value_in, value_of};
 
+use rt_input::push_plain;
 use std::alloc::{AllocError, Global};
 use std::io;
 use std::io::{ErrorKind, Write};
@@ -21,15 +22,33 @@ pub(crate) struct Shape {
     pub(crate) changes_only: bool,
     /// Such a line is cut where it has more than so many bytes.
     pub(crate) width: Option<u16>,
+    /// Whether what a terminal obeys is shown by its number.
+    pub(crate) is_escaped: bool,
 }
 
 impl Shape {
-    // Whether all lines are shown whole.
+    /// All lines, and each of them whole.
+    pub(crate) fn whole(is_escaped: bool) -> Shape
+        ensures { result ≡ record {
+          changes_only = false;
+          width = None;
+          is_escaped = is_escaped;
+        } }
+    {
+        Shape {
+            changes_only: false,
+            width: None,
+            is_escaped,
+        }
+    }
+
+    // Whether all lines are shown as they are.
     fn is_whole(self) -> bool
-        ensures { result ≡ true → (self.changes_only ≡ false) × (self.width ≡ None) }
+        ensures { result ≡ true
+            → (self.changes_only ≡ false) × (self.width ≡ None) × (self.is_escaped ≡ false) }
     {
         match self.width {
-            None => !self.changes_only,
+            None => !self.changes_only && !self.is_escaped,
             Some(_) => false,
         }
     }
@@ -81,26 +100,43 @@ fn whole_characters(line: &[u8], most: usize) -> usize
     most
 }
 
+// Shows a text of a line: as it is, or with the number of each character that a terminal obeys in its place. What
+// is no UTF-8 is shown as it is.
+#[tactic(auto, using(crate::proofs::Texts::is_text, crate::proofs::Texts::is_no_text))]
+fn show_text(shown: &mut Vec<u8>, is_escaped: bool, text: &[u8]) -> Result<(), AllocError>
+    ensures { OnOk result (shown.new.items ≡ shown.old.items ++ text_as is_escaped text.now) }
+{
+    if !is_escaped {
+        return shown.extend_from_slice(text);
+    }
+    match std::str::from_utf8(text) {
+        Ok(text) => push_plain(shown, text),
+        Err(_) => shown.extend_from_slice(text),
+    }
+}
+
 // Shows the beginning of a line, and how many bytes its value has.
 fn show_cut(
     shown: &mut Vec<u8>,
     alloc: Global,
+    is_escaped: bool,
     line: &[u8],
     width: u16,
     len: usize,
 ) -> Result<(), AllocError> {
     let room = usize::from(width).saturating_sub(MOST_SAID);
     let kept = whole_characters(line, room.min(line.len()));
-    shown.extend_from_slice(&line[..kept])?;
+    show_text(shown, is_escaped, &line[..kept])?;
     let said = format!(in alloc; " .. ({len} bytes)\n")?;
     shown.extend_from_slice(said.as_str().as_bytes())
 }
 
 // Shows a line whole.
-fn show_whole(shown: &mut Vec<u8>, line: &[u8]) -> Result<(), AllocError>
-    ensures { OnOk result (shown.new.items ≡ shown.old.items ++ (line.now ++ 10 ∷ [])) }
+fn show_whole(shown: &mut Vec<u8>, is_escaped: bool, line: &[u8]) -> Result<(), AllocError>
+    ensures { OnOk result
+        (shown.new.items ≡ shown.old.items ++ (text_as is_escaped line.now ++ 10 ∷ [])) }
 {
-    shown.extend_from_slice(line)?;
+    show_text(shown, is_escaped, line)?;
     shown.push(b'\n')?;
     Ok(())
 }
@@ -113,25 +149,25 @@ fn show_line(
     line: &[u8],
 ) -> Result<(), AllocError>
     ensures whole { OnOk result (value_in line.now ≡ None
-        → shown.new.items ≡ shown.old.items ++ (line.now ++ 10 ∷ [])) }
+        → shown.new.items ≡ shown.old.items ++ (text_as shape.is_escaped line.now ++ 10 ∷ [])) }
     ensures left_out { IfSome (value_in line.now) (λ value.
         shape.changes_only ≡ true → shown.new ≡ shown.old) }
 {
     let Some(value) = value_in(line) else {
-        return show_whole(shown, line);
+        return show_whole(shown, shape.is_escaped, line);
     };
     if shape.changes_only {
         return Ok(());
     }
     match shape.width {
         Some(width) if usize::from(width) < line.len() => {
-            show_cut(shown, alloc, line, width, value.len())
+            show_cut(shown, alloc, shape.is_escaped, line, width, value.len())
         }
-        Some(_) | None => show_whole(shown, line),
+        Some(_) | None => show_whole(shown, shape.is_escaped, line),
     }
 }
 
-// Shows lines, and what stands behind the last line feed as it is.
+// Shows lines, and behind the last line feed the text that stands there.
 fn show_lines(
     shown: &mut Vec<u8>,
     alloc: Global,
@@ -145,7 +181,7 @@ fn show_lines(
             begun = at + 1;
         }
     }
-    shown.extend_from_slice(&lines[begun..])
+    show_text(shown, shape.is_escaped, &lines[begun..])
 }
 
 /// A writer that is given lines whole, and shows them.

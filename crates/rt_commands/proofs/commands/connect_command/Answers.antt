@@ -8,5 +8,8 @@ returns-clause-app c =
     let new : app_of c.after_help.result ≡ new_app (codes "connect") =
     ap app_of_fields c.after_help.ensures ∙ ap app_of_fields c.about.ensures ∙ c.new.ensures.app in
     c.in_ok-command.ensures.shape (search rules)
+    ∙ ap₂ with_rule
+    (c.in_ok-arg-2.ensures.shape (search rules)
     ∙ ap₂ with_rule (c.in_ok-arg.ensures.shape (search rules) ∙ ap₂ with_rule new c.port_arg.ensures.rule)
+    c.flag_arg.ensures.rule)
     c.verbose_arg.ensures.rule

@@ -9,6 +9,8 @@ returns-clause-app c =
     ap app_of_fields c.after_help.ensures ∙ ap app_of_fields c.about.ensures ∙ c.new.ensures.app in
     c.in_ok-command.ensures.shape (search rules)
     ∙ ap₂ with_rule
+    (c.in_ok-arg-6.ensures.shape (search rules)
+    ∙ ap₂ with_rule
     (c.in_ok-arg-5.ensures.shape (search rules)
     ∙ ap₂ with_rule
     (c.in_ok-arg-4.ensures.shape (search rules)
@@ -21,4 +23,5 @@ returns-clause-app c =
     c.flag_arg.ensures.rule)
     c.flag_arg-2.ensures.rule)
     c.number_arg-2.ensures.rule)
+    c.flag_arg-3.ensures.rule)
     c.verbose_arg.ensures.rule
