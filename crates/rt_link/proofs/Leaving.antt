@@ -1,10 +1,14 @@
 -- A connection that is left, and what a turn makes of it.
-use Rattle.std.proofs.Common.{rules, ◌≡◌, ◌∙◌, Bool, true, false, inl, inr, List, ◌++◌, ap, subst, sym}
+use Rattle.std.proofs.Common.{rules, ◌≡◌, ◌∙◌, Bool, true, false, Ok, inl, inr, List, ◌++◌, ap, subst, sym}
 use Rattle.std.specs.Prelude.{◌≢◌}
 use mathlib.Core.List.{append-nil}
-use Rattle.rt_link.specs.Carrying.{Standing, Shaking, Open, Closing, Gone, Carried, Closes, IsLeft, PassesOver, Turns}
+use Rattle.rt_socket.specs.declared.patience.Patience.{Patience}
+use Rattle.rt_socket.specs.declared.patience.Patience.TheVariants as patience
+use Rattle.rt_socket.specs.declared.wire.Flushed.{Flushed}
+use Rattle.rt_socket.specs.declared.wire.Flushed.TheVariants as flush
+use Rattle.rt_link.specs.Carrying.{Standing, Shaking, Open, Closing, Gone, Carried, Closes, GoesOn, IsLeft, PassesOver, Turns}
 use Rattle.rt_link.specs.Carrying.{left_standing}
-use Rattle.rt_link.specs.Turning.{left_by}
+use Rattle.rt_link.specs.Turning.{is_awaited, left_by, AwaitsEnd, Parts, SeesOff}
 use Rattle.rt_link.specs.declared.connection.Turn.{Turn}
 use Rattle.rt_link.specs.declared.connection.Turn.TheVariants as turn
 use Rattle.rt_link.specs.declared.link.Parting.{Parting}
@@ -15,6 +19,33 @@ use Rattle.rt_link.specs.declared.taking.Passed.{Passed}
 pub left_so : (is_said : Bool) (new : Standing) → new ≡ left_standing is_said → Closes Open new
 left_so true new e = inl e
 left_so false new e = inr e
+
+-- ---- a server that is left is seen off
+
+awaits_parts : (p : Patience) (is_more : Bool) (t : Turn) → AwaitsEnd p is_more t → Parts t
+awaits_parts (patience.Wait millis) true t e = subst (λ x. Parts x) (sym e) tt
+awaits_parts (patience.Wait millis) false t e = subst (λ x. Parts x) (sym e.2) tt
+awaits_parts patience.Ping is_more t e = subst (λ x. Parts x) (sym e) tt
+awaits_parts patience.GiveUp is_more t e = subst (λ x. Parts x) (sym e) tt
+
+pub sees_off_parts : (f : Flushed) (p : Patience) (is_more : Bool) (t : Turn) → SeesOff f p is_more t → Parts t
+sees_off_parts flush.Done p is_more t e = awaits_parts p is_more t e
+sees_off_parts flush.Blocked p is_more t e = awaits_parts p is_more t e
+sees_off_parts (flush.Failed why) p is_more t e = subst (λ x. Parts x) (sym e) tt
+
+pub awaited : (t : Turn) (new : Standing) → Parts t → is_awaited (Ok t) ≡ true → new ≡ Closing
+    → GoesOn Closing t new
+awaited (turn.Idle most) new p a e = e
+awaited turn.More new p a e = e
+awaited (turn.NotOpened why) new p a e = absurd p
+awaited (turn.Ended why) new p a e = absurd (search rules)
+
+pub awaited_no_more : (t : Turn) (new : Standing) → Parts t → is_awaited (Ok t) ≡ false → new ≡ Gone
+    → GoesOn Closing t new
+awaited_no_more (turn.Idle most) new p a e = absurd (search rules)
+awaited_no_more turn.More new p a e = absurd (search rules)
+awaited_no_more (turn.NotOpened why) new p a e = absurd p
+awaited_no_more (turn.Ended why) new p a e = e
 
 closing_is_left : (new : Standing) → new ≡ Closing → IsLeft new
 closing_is_left new e = subst (λ s. IsLeft s) (sym e) tt

@@ -1,5 +1,5 @@
 -- What a turn of a connection leaves to be done.
-use Rattle.std.specs.Prelude.{◌≡◌, ◌*◌, ℕ, ◌==◌, if◌then◌else◌, Bool, true, false}
+use Rattle.std.specs.Prelude.{◌≡◌, ◌*◌, ℕ, ◌==◌, if◌then◌else◌, ⊤, Bool, true, false, Result, Ok, Err}
 use Rattle.std.specs.declared.time.Duration.{Duration}
 use Rattle.std.specs.Duration.{as_nanos}
 use Rattle.rt_socket.specs.declared.batch.Pause.{Pause}
@@ -11,6 +11,7 @@ use Rattle.rt_socket.specs.declared.wire.Flushed.{Flushed}
 use Rattle.rt_socket.specs.declared.wire.Flushed.TheVariants as flush
 use Rattle.rt_link.specs.declared.connection.Turn.{Turn}
 use Rattle.rt_link.specs.declared.connection.Turn.TheVariants as turn
+use Rattle.rt_link.specs.declared.error.LinkFault.{LinkFault}
 use Rattle.rt_link.specs.declared.link.Parting.{Parting}
 use Rattle.rt_link.specs.declared.link.Parting.TheVariants as parting
 use Rattle.rt_link.specs.declared.link.LinkEnd.TheVariants as ending
@@ -65,3 +66,18 @@ abbrev pub SeesOff : Flushed → Patience → Bool → Turn → Type 0
 SeesOff flush.Done p is_more t = AwaitsEnd p is_more t
 SeesOff flush.Blocked p is_more t = AwaitsEnd p is_more t
 SeesOff (flush.Failed why) p is_more t = t ≡ turn.Ended why
+
+-- one that is left is waited for, or is over
+abbrev pub Parts : Turn → Type 0
+Parts (turn.Idle most) = ⊤
+Parts turn.More = ⊤
+Parts (turn.NotOpened why) = ⊥
+Parts (turn.Ended why) = ⊤
+
+-- it is waited for
+abbrev pub is_awaited : Result Turn LinkFault → Bool
+is_awaited (Ok (turn.Idle most)) = true
+is_awaited (Ok turn.More) = true
+is_awaited (Ok (turn.NotOpened why)) = false
+is_awaited (Ok (turn.Ended why)) = false
+is_awaited (Err why) = false

@@ -1,7 +1,7 @@
 // A connection of a client, from its handshake to its end.
 ghost use Rattle.std.specs.Prelude.{◌≡◌, [], IfOk, IfErr, OnOk};
 ghost use Rattle.rt_link.specs.Carrying.{Closes, Fails, GoesOn, PassesOver, Shakes, Turns};
-ghost use Rattle.rt_link.specs.Turning.{is_sent, AwaitsEnd, SeesOff};
+ghost use Rattle.rt_link.specs.Turning.{is_awaited, is_sent, AwaitsEnd, Parts, SeesOff};
 ghost use Rattle.rt_link.specs.inside.Rounds.{RefusesEnd};
 ghost use Rattle.rt_link.specs.declared.connection.Turn.TheVariants.{Ended};
 ghost use Rattle.rt_link.specs.Carrying.{begun, is_open, left_standing, standing_of, Closing, Gone, Open, Shaking};
@@ -53,30 +53,30 @@ impl<S: Read + Write + Drop, N: RandomSource + Drop> Drop for Stage<S, N> {
     }
 }
 
-// Goes on with a handshake: what is behind it, or why it fails.
+// Goes on with a handshake: what is behind it, or why it fails, if there is memory to say it.
 fn shake_on<S: Read + Write + Drop, N: RandomSource + Drop>(
     alloc: Global,
     mut mid: Shaking<S, N>,
-) -> Result<Result<Stage<S, N>, Lost>, AllocError> {
+) -> Result<Stage<S, N>, Result<Lost, AllocError>> {
     mid.get_mut().allow(TURN_BYTES);
     match mid.handshake() {
         Ok((socket, response)) => {
             drop(response);
-            Ok(Ok(Stage::Open(Socket::new(alloc, socket))))
+            Ok(Stage::Open(Socket::new(alloc, socket)))
         }
-        Err(HandshakeError::Interrupted(mid)) => Ok(Ok(Stage::Shaking(mid))),
-        Err(HandshakeError::Failure(why)) => Ok(Err(unopened(why)?)),
+        Err(HandshakeError::Interrupted(mid)) => Ok(Stage::Shaking(mid)),
+        Err(HandshakeError::Failure(why)) => Err(unopened(why)),
     }
 }
 
 impl<S: Read + Write + Drop, N: RandomSource + Drop> Stage<S, N> {
     // Goes on with the handshake, if that is where it is.
-    fn shaken(self, alloc: Global) -> Result<Result<Stage<S, N>, Lost>, AllocError> {
+    fn shaken(self, alloc: Global) -> Result<Stage<S, N>, Result<Lost, AllocError>> {
         match self {
             Stage::Shaking(mid) => shake_on(alloc, mid),
-            Stage::Open(socket) => Ok(Ok(Stage::Open(socket))),
-            Stage::Closing(socket) => Ok(Ok(Stage::Closing(socket))),
-            Stage::Gone => Ok(Ok(Stage::Gone)),
+            Stage::Open(socket) => Ok(Stage::Open(socket)),
+            Stage::Closing(socket) => Ok(Stage::Closing(socket)),
+            Stage::Gone => Ok(Stage::Gone),
         }
     }
 
@@ -176,6 +176,26 @@ fn is_sent(flushed: Flushed) -> bool
     match &flushed {
         Flushed::Done | Flushed::Blocked => true,
         Flushed::Failed(_) => false,
+    }
+}
+
+// The handshake has failed.
+fn not_opened(why: Result<Lost, AllocError>) -> Result<Turn, LinkFault>
+    ensures { IfOk result (λ turn. Shakes turn Gone) }
+{
+    match why {
+        Ok(why) => Ok(Turn::NotOpened(why)),
+        Err(_) => Err(LinkFault::NoMemory),
+    }
+}
+
+// Whether a connection that is left is still waited for.
+fn is_awaited(heard: &Result<Turn, LinkFault>) -> bool
+    ensures { result ≡ is_awaited heard.now }
+{
+    match heard {
+        Ok(Turn::Idle(_) | Turn::More) => true,
+        Ok(Turn::NotOpened(_) | Turn::Ended(_)) | Err(_) => false,
     }
 }
 
@@ -283,9 +303,9 @@ impl<S: Read + Write + Drop, N: RandomSource + Drop> Connection<S, N> {
         ensures passed { self.new.passed ≡ self.old.passed }
     {
         let stage = std::mem::replace(&mut self.stage, Stage::Gone);
-        match stage.shaken(self.alloc)? {
+        match stage.shaken(self.alloc) {
             Ok(stage) => self.shaken(rt, client, stage),
-            Err(why) => Ok(Turn::NotOpened(why)),
+            Err(why) => not_opened(why),
         }
     }
 
@@ -442,29 +462,25 @@ impl<S: Read + Write + Drop, N: RandomSource + Drop> Connection<S, N> {
     }
 
     // Passes over what the server still sends, until it goes too.
+    #[tactic(auto, using(crate::proofs::Leaving::awaited, crate::proofs::Leaving::awaited_no_more))]
     fn see_off<R: Clock>(&mut self, rt: &R) -> Result<Turn, LinkFault>
         ensures gone { IfErr result (λ e. self.new.standing ≡ Gone) }
         ensures stands { self.old.standing ≡ Closing
             → IfOk result (λ turn. GoesOn Closing turn self.new.standing) }
         ensures passed { self.new.passed ≡ self.old.passed }
     {
-        match self.hear_off(rt) {
-            Ok(Turn::Idle(most)) => Ok(Turn::Idle(most)),
-            Ok(Turn::More) => Ok(Turn::More),
-            Ok(Turn::NotOpened(why) | Turn::Ended(why)) => {
-                self.stage = Stage::Gone;
-                Ok(Turn::Ended(why))
-            }
-            Err(why) => {
-                self.stage = Stage::Gone;
-                Err(why)
-            }
+        let heard = self.hear_off(rt);
+        if !is_awaited(&heard) {
+            self.stage = Stage::Gone;
         }
+        heard
     }
 
     // Reads what the server still sends, and drops it. Says how long it is waited for, or why it is not.
+    #[tactic(auto, using(crate::proofs::Leaving::sees_off_parts))]
     fn hear_off<R: Clock>(&mut self, rt: &R) -> Result<Turn, LinkFault>
-        ensures { self.new ≡ self.old }
+        ensures kept { self.new ≡ self.old }
+        ensures parts { IfOk result Parts }
     {
         let patience = for_end(millis_since(rt, self.heard)?);
         let Stage::Closing(socket) = &mut self.stage else {
@@ -487,19 +503,12 @@ impl<S: Read + Write + Drop, N: RandomSource + Drop> Connection<S, N> {
     /// # Errors
     ///
     /// `Client` where the client has failed.
-    #[tactic(auto, using(crate::proofs::Leaving::left_so))]
     pub fn close<R: Wait + Clock>(&mut self, rt: &R, client: &Client) -> Result<(), LinkFault>
         ensures closes { Closes self.old.standing self.new.standing }
         ensures passed { self.new.passed ≡ self.old.passed }
     {
-        match &mut self.stage {
-            Stage::Open(socket) => {
-                let is_said = is_sent(socket.close(None));
-                self.leave(is_said);
-                client.disconnected(rt)?;
-                self.heard = Instant::now(rt)?;
-                Ok(())
-            }
+        match &self.stage {
+            Stage::Open(_) => self.leave(rt, client),
             Stage::Shaking(_) => {
                 self.stage = Stage::Gone;
                 Ok(())
@@ -508,8 +517,31 @@ impl<S: Read + Write + Drop, N: RandomSource + Drop> Connection<S, N> {
         }
     }
 
+    // Tells the server and the client that a connection ends that stood.
+    #[tactic(auto, using(crate::proofs::Leaving::left_so))]
+    fn leave<R: Wait + Clock>(&mut self, rt: &R, client: &Client) -> Result<(), LinkFault>
+        ensures closes { self.old.standing ≡ Open → Closes Open self.new.standing }
+        ensures passed { self.new.passed ≡ self.old.passed }
+    {
+        let is_said = self.say_end();
+        self.leave_stage(is_said);
+        client.disconnected(rt)?;
+        self.heard = Instant::now(rt)?;
+        Ok(())
+    }
+
+    // Tells the server that a connection ends that stood: whether that is on its way, or will be.
+    fn say_end(&mut self) -> bool
+        ensures { self.new ≡ self.old }
+    {
+        match &mut self.stage {
+            Stage::Open(socket) => is_sent(socket.close(None)),
+            Stage::Shaking(_) | Stage::Closing(_) | Stage::Gone => false,
+        }
+    }
+
     // The connection that stood is left, or gone where the server can't be told.
-    fn leave(&mut self, is_said: bool)
+    fn leave_stage(&mut self, is_said: bool)
         ensures left { self.old.standing ≡ Open → self.new.standing ≡ left_standing is_said }
         ensures passed { self.new.passed ≡ self.old.passed }
     {
