@@ -2,3 +2,4 @@ pub mod Order
 pub mod Entries
 pub mod Lookups
 pub mod Parts
+pub mod Before

@@ -1,10 +1,22 @@
 -- A map as a value. Contracts say of it what std says of a `BTreeMap`.
-use Rattle.std.specs.Prelude.{ℕ, List, Option}
+use Rattle.std.specs.Prelude.{List, [], ◌∷◌, Option, None, Some}
 use base.Stored.{Coded, coded_list, coded×, coded_via}
 use Rattle.std.specs.declared.cmp.Ordering.{Ordering}
 use Rattle.std.specs.BTreeMap.{is_at}
 use Rattle.std.specs.Map.{lookup, keys_of, values_of, set_value}
+use Rattle.std.specs.List.{filter}
 use Rattle.std.specs.List.Sorted.{IsStrictlySortedBy}
+use Rattle.std.specs.Ordering.{is_gt}
+
+-- the last of a list
+abbrev pub last_in : {X : Type 0} → List X → Option X
+last_in [] = None
+last_in (x ∷ []) = Some x
+last_in (x ∷ y ∷ xs) = last_in (y ∷ xs)
+
+-- the last key to which the query compares `Greater`
+abbrev pub last_below : {K X : Type 0} → (K → Ordering) → List (K × X) → Option K
+last_below compare es = last_in (filter (λ k. is_gt (compare k)) (keys_of es))
 
 -- the keys with their values, in the keys' order
 pub record OrdMap (K X : Type 0) : Type 0 where

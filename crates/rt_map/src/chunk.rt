@@ -6,7 +6,8 @@ ghost use Rattle.std.specs.Option.{option_copied};
 ghost use Rattle.std.specs.BTreeMap.{insert_entry, is_at};
 ghost use Rattle.std.specs.Map.{lookup, remove_entry, keys_of};
 ghost use Rattle.std.specs.List.Sorted.{IsStrictlySortedBy};
-ghost use Rattle.rt_map.specs.inside.Places.{IsAt, IsGap};
+ghost use Rattle.rt_map.specs.inside.Places.{IsAt, IsGap, IsStop};
+ghost use Rattle.rt_map.specs.Maps.{last_below};
 ghost use Rattle.std.specs.Borrow.{sem};
 ghost use Rattle.rt_map.specs.Lent.{LendsInChunk};
 
@@ -104,7 +105,30 @@ pub fn find<K: Ord, V>(entries: &[(K, V)], key: &K) -> Result<usize, usize>
     Err(low)
 }
 
+// How many keys are below this one.
+fn count_below<K: Ord, V>(entries: &[(K, V)], key: &K) -> usize
+    requires { IsStrictlySortedBy K.cmp (keys_of entries.now) }
+    ensures { IsStop K.cmp key.now entries.now result }
+{
+    match find(entries, key) {
+        Ok(at) => at,
+        Err(at) => at,
+    }
+}
+
 impl<K: Ord, V> Chunk<K, V> {
+    /// The last key below this one.
+    pub fn before(&self, key: &K) -> Option<&K>
+        requires { IsStrictlySortedBy K.cmp (keys_of self.now) }
+        ensures { option_copied result ≡ last_below (K.cmp key.now) self.now }
+    {
+        let at = count_below(self.entries.as_slice(), key);
+        if at == 0 {
+            return None;
+        }
+        Some(&self.entries[at - 1].0)
+    }
+
     /// The value at the key.
     pub fn get(&self, key: &K) -> Option<&V>
         requires { IsStrictlySortedBy K.cmp (keys_of self.now) }

@@ -7,7 +7,7 @@ ghost use Rattle.std.specs.List.Sorted.{IsStrictlySortedBy};
 ghost use Rattle.std.specs.BTreeMap.{insert_entry, is_at};
 ghost use Rattle.std.specs.Map.{remove_entry, keys_of};
 ghost use Rattle.std.specs.Borrow.{sem};
-ghost use Rattle.rt_map.specs.Maps.{values, get_by, IsOrdered};
+ghost use Rattle.rt_map.specs.Maps.{values, get_by, last_below, IsOrdered};
 ghost use Rattle.rt_map.specs.Lent.{LendsInMap};
 ghost use Rattle.rt_map.specs.Updates.{Updates};
 
@@ -132,6 +132,13 @@ impl<K: Ord, V> OrdMap<K, V> {
         ensures { result ≡ is_some (get_by (K.cmp key.now) self.now) }
     {
         self.get(key).is_some()
+    }
+
+    /// The last key below this one, which need not be there.
+    pub fn before(&self, key: &K) -> Option<&K>
+        ensures { option_copied result ≡ last_below (K.cmp key.now) self.now.entries }
+    {
+        self.root.before(key)
     }
 
     /// The entry of the least key.

@@ -6,6 +6,7 @@ ghost use Rattle.std.specs.BTreeMap.{insert_entry, is_at};
 ghost use Rattle.std.specs.Map.{lookup, remove_entry, keys_of};
 ghost use Rattle.std.specs.List.Sorted.{IsStrictlySortedBy};
 ghost use Rattle.rt_map.specs.inside.Joined.{joined, AllFilled};
+ghost use Rattle.rt_map.specs.Maps.{last_below};
 ghost use Rattle.rt_map.specs.inside.Roots.{root_entries};
 
 use crate::build::{chunks_of, rows_of};
@@ -118,6 +119,17 @@ impl<K: Ord, V> Root<K, V> {
         match self {
             Root::Small(chunk) => chunk.get(key),
             Root::Large(table) => table.get(key),
+        }
+    }
+
+    /// The last key below this one.
+    pub fn before(&self, key: &K) -> Option<&K>
+        requires { IsStrictlySortedBy K.cmp (keys_of (root_entries self.now)) }
+        ensures { option_copied result ≡ last_below (K.cmp key.now) (root_entries self.now) }
+    {
+        match self {
+            Root::Small(chunk) => chunk.before(key),
+            Root::Large(table) => table.before(key),
         }
     }
 }

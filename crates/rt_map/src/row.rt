@@ -1,11 +1,12 @@
 // A run of chunks.
-ghost use Rattle.std.specs.Prelude.{◌≡◌, [], ◌∷◌, ◌++◌, ◌<◌, ◌≤◌, ◌+◌, ◌-◌, ◌↔◌, length, IfOk};
+ghost use Rattle.std.specs.Prelude.{◌≡◌, [], ◌∷◌, ◌++◌, ◌<◌, ◌≤◌, ◌+◌, ◌-◌, ◌↔◌, length, take, IfOk};
 ghost use Rattle.std.specs.Prelude.{IfErr, IfSome, IsSome, IsTrue, None, OnOk, OnErr, Some, slice_index_or};
 ghost use Rattle.std.specs.Option.{option_copied};
 ghost use Rattle.std.specs.Arc.{arc_value};
 ghost use Rattle.std.specs.BTreeMap.{insert_entry, is_at};
 ghost use Rattle.std.specs.Map.{lookup, remove_entry, keys_of};
 ghost use Rattle.std.specs.List.Sorted.{IsStrictlySortedBy};
+ghost use Rattle.rt_map.specs.Maps.{last_below, last_in};
 ghost use Rattle.rt_map.specs.inside.Joined.{joined, AllFilled, IsWider};
 ghost use Rattle.rt_map.specs.inside.Places.{IsPart};
 ghost use Rattle.std.specs.Borrow.{sem};
@@ -277,6 +278,34 @@ fn get_from<'a, K: Ord, V>(parts: &'a [Arc<Chunk<K, V>, Global>], key: &K) -> Op
     parts[at].get(key)
 }
 
+// The last key of the parts in front of one.
+fn last_in_front<K, V>(parts: &[Arc<Chunk<K, V>, Global>], at: usize) -> Option<&K>
+    requires within { at < length parts.now }
+    requires filled { AllFilled parts.now }
+    ensures { option_copied result ≡ last_in (keys_of (joined (take at parts.now))) }
+{
+    if at == 0 {
+        return None;
+    }
+    Some(&parts[at - 1].last().0)
+}
+
+// The last key below this one.
+fn before_in<'a, K: Ord, V>(parts: &'a [Arc<Chunk<K, V>, Global>], key: &K) -> Option<&'a K>
+    requires filled { AllFilled parts.now }
+    requires sorted { IsStrictlySortedBy K.cmp (keys_of (joined parts.now)) }
+    ensures { option_copied result ≡ last_below (K.cmp key.now) (joined parts.now) }
+{
+    if parts.is_empty() {
+        return None;
+    }
+    let at = find_part(parts, key);
+    match parts[at].before(key) {
+        Some(found) => Some(found),
+        None => last_in_front(parts, at),
+    }
+}
+
 fn remove_from<K: Ord + Share, V: Share>(
     parts: &mut Vec<Arc<Chunk<K, V>, Global>>,
     key: &K,
@@ -368,6 +397,14 @@ impl<K: Ord, V> Row<K, V> {
         ensures { option_copied result ≡ lookup (is_at (K.cmp key.now)) self.now }
     {
         get_from(self.chunks.as_slice(), key)
+    }
+
+    /// The last key below this one.
+    pub fn before(&self, key: &K) -> Option<&K>
+        requires { IsStrictlySortedBy K.cmp (keys_of self.now) }
+        ensures { option_copied result ≡ last_below (K.cmp key.now) self.now }
+    {
+        before_in(self.chunks.as_slice(), key)
     }
 }
 

@@ -1,5 +1,5 @@
 // The order of keys.
-ghost use Rattle.std.specs.Prelude.{◌≡◌, length};
+ghost use Rattle.std.specs.Prelude.{◌≡◌, is_some, length};
 ghost use Rattle.std.specs.Ordering.{ordering_then, nat_cmp};
 ghost use Rattle.rt_order.specs.KeyOrder.{bytes_cmp, integer_of, key_cmp, key_cmp_by};
 
@@ -51,4 +51,12 @@ pub fn key_cmp(a: &Key, b: &Key) -> Ordering
     ensures { result ≡ key_cmp a.now b.now }
 {
     key_cmp_by(integer_of(a), integer_of(b), a, b)
+}
+
+/// Whether a key is an integer key, as [`key_cmp`] has them. Where no key is one, keys are in the order
+/// of their bytes.
+pub fn is_integer(key: &Key) -> bool
+    ensures { result ≡ is_some (integer_of key.now) }
+{
+    integer_of(key).is_some()
 }

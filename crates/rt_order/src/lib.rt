@@ -22,7 +22,7 @@ mod value;
 pub use cut::{Cut, Mark, Place, Range, cut_cmp};
 pub use examples::{cut_examples, key_examples, range_examples, value_examples};
 pub use index::{Index, entry_cmp, sort_value};
-pub use key::key_cmp;
+pub use key::{is_integer, key_cmp};
 pub use laws::{cut_laws, cut_order_laws, entry_laws, equality_laws, key_laws};
 pub use placed::PlacedKey;
 pub use placed_ref::PlacedRef;

@@ -1,6 +1,9 @@
 -- Where a key stands among entries in key order.
 use Rattle.std.specs.Prelude.{◌≡◌, ℕ, suc, ◌<◌, ◌≤◌, List, [], ◌∷◌, length, take, drop}
 use lib.ListN.{get_or}
+use Rattle.std.specs.List.{filter}
+use Rattle.std.specs.Map.{keys_of}
+use Rattle.std.specs.Ordering.{is_gt}
 use Rattle.std.specs.declared.cmp.Ordering.{Ordering}
 use Rattle.std.specs.declared.cmp.Ordering.TheVariants.{Less, Equal, Greater}
 use Rattle.std.specs.declared.sync.Arc.{Arc}
@@ -29,6 +32,12 @@ pub record IsGap {K V : Type 0} (cmp : K → K → Ordering) (k : K) (es : List 
   pub within : at ≤ length es
   pub below : AllBelow cmp k (take at es)
   pub above : AllAbove cmp k (drop at es)
+
+-- so many entries are below the key, and no other one is
+pub record IsStop {K V : Type 0} (cmp : K → K → Ordering) (k : K) (es : List (K × V)) (at : ℕ) : Type 0 where
+  pub within : at ≤ length es
+  pub below : AllBelow cmp k (take at es)
+  pub none : filter (λ j. is_gt (cmp k j)) (keys_of (drop at es)) ≡ []
 
 -- if the key is anywhere, it is in the part at this place
 pub record IsPart {K V : Type 0} (cmp : K → K → Ordering) (k : K) (as' : List (Arc (List (K × V)) Global)) (at : ℕ) : Type 0 where
