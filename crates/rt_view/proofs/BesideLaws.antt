@@ -1,8 +1,7 @@
 -- All children that are known, and those beside the range.
 use Rattle.std.specs.Prelude.{T, IfNone, IfSome}
-use Rattle.std.proofs.Common.{◌≡◌, true, false, cond, not, [], ◌∷◌, ◌++◌, refl, sym, ap, subst, ◌∙◌, ◌||◌, List, Option, Some, None, is_some}
-use Rattle.std.specs.List.{All, AllByRecursion, filter}
-use Rattle.std.proofs.lemmas.List.Elements.{All-cons, All-nil}
+use Rattle.std.proofs.Common.{◌≡◌, true, false, cond, not, [], ◌∷◌, ◌++◌, refl, sym, ap, subst, ◌∙◌, Option, Some, None, is_some}
+use Rattle.std.specs.List.{AllByRecursion, filter}
 use Rattle.std.specs.FinMap as map_of
 use Rattle.std.specs.FinMap.Entries.{is_sorted}
 use Rattle.std.specs.Map.{lookup, remove_entry}
@@ -10,22 +9,18 @@ use Rattle.std.specs.BTreeMap.{is_at}
 use Rattle.std.specs.Ordering.{eq_by_cmp}
 use Rattle.rt_tree.specs.PathTree.{Key, PathTree, child_of, put}
 use Rattle.rt_tree.specs.Children.{children_of}
-use Rattle.rt_order.specs.declared.cut.Cut.{Cut}
 use Rattle.rt_order.specs.declared.cut.Range.{Range}
-use Rattle.rt_order.specs.declared.index.Index.{Index}
 use Rattle.rt_order.specs.Cuts.{has}
 use Rattle.rt_order.specs.Entries.{Entry, entry, entry_cmp}
 use Rattle.rt_query.specs.declared.limit.Limit.{Limit}
 use Rattle.rt_query.specs.declared.limit.Limit.TheVariants.{First, Last}
-use Rattle.rt_query.specs.Queries.{Query, is_filtered}
+use Rattle.rt_query.specs.Queries.{Query}
 use Rattle.rt_query.specs.Select.{sorted_by}
-use Rattle.rt_view.specs.declared.told.Seen.{Seen}
 use Rattle.rt_view.specs.declared.window.Window.{Window}
 use Rattle.rt_view.specs.inside.Kept.{IsWindowOf, brought_in, in_order, taken_out, wholly}
-use Rattle.rt_view.specs.inside.Ranged.{HasEach, Spread, all_known, inner, inside}
-use Rattle.rt_view.specs.inside.Telling.{IsSeen, IsSeenIn, left_by, takes_place}
+use Rattle.rt_view.specs.inside.Ranged.{Spread, all_known, inner, inside}
+use Rattle.rt_view.specs.inside.Telling.{left_by, takes_place}
 use Rattle.rt_view.specs.inside.Windows.{Entries, IsWindow, all_of, is_there, joined, known_in, put_inside, rest_from, rest_in, shown_from, shown_in, without}
-use Rattle.rt_view.proofs.CrossLaws.{shown_known}
 use Rattle.rt_view.proofs.Listed.{listed-in_order}
 use Rattle.rt_view.proofs.TouchLaws.{left_same, touched_order}
 use Rattle.rt_view.proofs.WindowLaws.{remove_entry-without, same_entry}
@@ -99,32 +94,6 @@ left_taken q k o t new w range is takes =
 -- all that are known, once one was taken out
 pub known_without : (e : Entry) (old new : Spread) → T (is_sorted entry_cmp (all_known old)) → all_known new ≡ remove_entry (is_at (entry_cmp e)) (all_known old) → all_known new ≡ without e (all_known old)
 known_without e old new up taken = taken ∙ remove_entry-without e (all_known old) up
-
--- ---- what is shown lies in the range
-
-pub seen_in_range : (q : Query) (known t : PathTree) (w : Window) → IsWindowOf q known w → (s : Seen) → IsSeen t (shown_in w) s → IsSeenIn w.children.range q.index s
-seen_in_range q known t w kept s seen = at s.new refl
-  where
-    at : (o : Option PathTree) → s.new ≡ o → IfSome o (λ x. has w.children.range (entry q.index (s.key, x)) ≡ true)
-    at None g = tt
-    at (Some x) g = ap (λ r. has r (entry q.index (s.key, x))) kept.range ∙ (shown_known q known w s.key x kept (sym seen.1 ∙ g)).1
-
--- a query that isn't filtered has each entry in its range
-pub has_each : (q : Query) (r : Range) → is_filtered q ≡ false → r ≡ q.range → HasEach r
-has_each q r plain is e = ap (λ (x : Range). has x e) is ∙ at q.range.lower q.range.upper plain
-  where
-    at : (a b : Option Cut) → (is_some a || is_some b || is_some q.limit) ≡ false → has (record { lower = a; upper = b }) e ≡ true
-    at None None h = refl
-    at None (Some b) h = cc
-    at (Some a) b h = cc
-
-pub all_seen_in : (r : Range) (index : Index) → HasEach r → (seen : List Seen) → All (IsSeenIn r index) seen
-all_seen_in r index each [] = All-nil (IsSeenIn r index)
-all_seen_in r index each (s ∷ seen) = All-cons (IsSeenIn r index) s seen (at s.new) (all_seen_in r index each seen)
-  where
-    at : (o : Option PathTree) → IfSome o (λ x. has r (entry index (s.key, x)) ≡ true)
-    at None = tt
-    at (Some x) = each (entry index (s.key, x))
 
 -- ---- an answer that is known
 

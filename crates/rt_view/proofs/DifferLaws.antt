@@ -13,18 +13,18 @@ use Rattle.rt_tree.specs.TreeEq.{tree_eq_tells}
 use Rattle.rt_query.specs.declared.row.Row.{Row}
 use Rattle.rt_query.specs.Queries.{Query, is_filtered}
 use Rattle.rt_query.specs.Rows.{HasDistinctKeys, row_at}
-use Rattle.rt_query.specs.Select.{as_children, row_of, rows_of, tree_by}
+use Rattle.rt_query.specs.Select.{as_children, row_of, rows_of, select, tree_by, tree_of}
 use Rattle.rt_query.specs.laws.Select.{object-parts}
 use Rattle.rt_view.specs.declared.window.Window.{Window}
 use Rattle.rt_view.specs.Views.{with_named}
 use Rattle.rt_view.specs.inside.Differences.{come, differing, emptied, gone, is_come, is_gone, stays}
-use Rattle.rt_view.specs.inside.Kept.{IsWindowOf, own_tree}
+use Rattle.rt_view.specs.inside.Kept.{IsWindowOf}
 use Rattle.rt_view.specs.inside.Windows.{Entries, shown_in}
 use Rattle.rt_view.proofs.CrossLaws.{shown_known}
 use Rattle.rt_view.proofs.Listed.{EachOnce, each_once, listed-window}
 use Rattle.rt_view.proofs.ReplayLaws.{row_at-cons}
 use Rattle.rt_view.proofs.TouchLaws.{child_fits, child_of-put}
-use Rattle.rt_view.proofs.TreeLaws.{filtered_leaf, filtered_own, leaf_of-put}
+use Rattle.rt_view.proofs.TreeLaws.{filtered_leaf, leaf_of-put}
 
 abbrev Children : Type 0
 Children = List (Key × PathTree)
@@ -241,11 +241,10 @@ rows_fit q t w allowed kept =
     once_rows (map row_of (shown_in w)) (listed-window q t w kept).once (λ k v e. (child_fits t k v allowed (shown_known q t w k v kept e).0).1)
 
 -- the object of what a window shows, where its query is filtered
-pub object_shown : (q : Query) (t : PathTree) (w : Window) → is_filtered q ≡ true → IsWindowOf q t w → Some (object (as_children (map row_of (shown_in w)))) ≡ own_tree q t
+pub object_shown : (q : Query) (t : PathTree) (w : Window) → is_filtered q ≡ true → IsWindowOf q t w → object (as_children (map row_of (shown_in w))) ≡ tree_of (select q t)
 object_shown q t w filtered kept =
-    filtered_own q t (object (as_children (map row_of (shown_in w)))) filtered
-    (ap (λ (es : Entries). object (as_children (map row_of es))) (sym kept.cut.cut)
-    ∙ sym (ap (λ l. tree_by l (rows_of q (children_of t))) (filtered_leaf q t filtered)))
+    ap (λ (es : Entries). object (as_children (map row_of es))) (sym kept.cut.cut)
+    ∙ sym (ap (λ l. tree_by l (rows_of q (children_of t))) (filtered_leaf q t filtered))
 
 -- what holds of an answer, by what holds where there is one
 pub if_both : {T E P : Type 0} (r : Result T E) (A B : T → Type 0) → ((x : T) → P → A x → B x) → OnOk r P → IfOk r A → IfOk r B

@@ -10,6 +10,7 @@ pub mod KnownWalks
 pub mod Listed
 pub mod MadeLaws
 pub mod Placed
+pub mod OrderLaws
 pub mod Orderings
 pub mod RangedLaws
 pub mod ReplayLaws

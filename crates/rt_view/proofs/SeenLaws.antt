@@ -13,20 +13,20 @@ use Rattle.std.proofs.lemmas.List.Elements.{All-cons, All-nil, All-weaker}
 use Rattle.std.specs.FinMap as map_of
 use Rattle.std.specs.FinMap.Entries.{find, is_sorted, below_all, is_sorted-put, find-put}
 use Rattle.rt_tree.specs.Allowed.{IsAllowed}
-use Rattle.rt_tree.specs.PathTree.{Key, PathTree, first, second, key_cmp, key_eq, key_eq-is, key_eq-same, key_eq-symm, is_null, levels, child_of}
+use Rattle.rt_tree.specs.PathTree.{Key, PathTree, first, second, key_cmp, key_eq, key_eq-is, key_eq-same, key_eq-symm, is_null, levels, child_of, non_null, put}
 use Rattle.rt_tree.specs.Children.{children_of}
 use Rattle.rt_order.specs.declared.index.Index.{Index}
 use Rattle.rt_query.specs.Queries.{Query}
 use Rattle.rt_view.specs.declared.told.Seen.{Seen}
 use Rattle.rt_view.specs.declared.window.Turned.{Turned}
 use Rattle.rt_view.specs.declared.window.Window.{Window}
-use Rattle.rt_view.specs.inside.Windows.{Entries, value_at, shown_in}
-use Rattle.rt_view.specs.inside.Kept.{IsWindowOf, is_noted}
+use Rattle.rt_view.specs.inside.Windows.{Entries, value_at}
+use Rattle.rt_view.specs.inside.Kept.{IsWindowOf, entries_shown, is_noted, stands_in}
 use Rattle.rt_view.specs.inside.Turns.{Comes, Leaves, Values, came_in, set_at, shown_if, went_out}
-use Rattle.rt_view.specs.inside.Telling.{AllSeen, AreSeen, IsFit, IsKeptBy, IsSeen, IsSeenOf, KeepsSeen, keys_in, seen_at, seen_in, seen_out, seen_too, seen_turned}
+use Rattle.rt_view.specs.inside.Telling.{AllSeen, AreSeen, IsFit, IsKeptBy, IsNew, IsSeen, IsSeenOf, KeepsSeen, keys_in, seen_at, seen_in, seen_out, seen_too, seen_turned}
 use Rattle.rt_view.proofs.CrossLaws.{shown_known}
 use Rattle.rt_view.proofs.Listed.{value_at-children}
-use Rattle.rt_view.proofs.TouchLaws.{child_fits}
+use Rattle.rt_view.proofs.TouchLaws.{child_fits, child_of-put}
 
 pub insert_entry-put : (es : List (Key × Seen)) (k : Key) (s : Seen) → insert_entry key_cmp es k s ≡ map_of.put key_cmp k s es
 insert_entry-put [] k s = refl
@@ -40,12 +40,15 @@ insert_entry-put (e ∷ es) k s =
 pub keeps_nothing : (f : Values) → KeepsSeen f f []
 keeps_nothing f = record { rises = tt; each = λ k. refl }
 
-keeps_same : (f g h : Values) (es : List (Key × Seen)) → ((j : Key) → h j ≡ g j) → KeepsSeen f g es → KeepsSeen f h es
-keeps_same f g h es same kept = record { rises = kept.rises; each = λ k. at k (find key_cmp k es) (kept.each k) }
+pub keeps_alike : (f g d h : Values) (es : List (Key × Seen)) → ((j : Key) → d j ≡ f j) → ((j : Key) → h j ≡ g j) → KeepsSeen f g es → KeepsSeen d h es
+keeps_alike f g d h es was is kept = record { rises = kept.rises; each = λ k. at k (find key_cmp k es) (kept.each k) }
   where
-    at : (k : Key) (o : Option Seen) → IsKeptBy f g k o → IsKeptBy f h k o
-    at k None e = same k ∙ e
-    at k (Some s) e = e ∙ (λ i. record { key = k; old = f k; new = sym (same k) i })
+    at : (k : Key) (o : Option Seen) → IsKeptBy f g k o → IsKeptBy d h k o
+    at k None e = is k ∙ e ∙ sym (was k)
+    at k (Some s) e = e ∙ (λ i. record { key = k; old = sym (was k) i; new = sym (is k) i })
+
+keeps_same : (f g h : Values) (es : List (Key × Seen)) → ((j : Key) → h j ≡ g j) → KeepsSeen f g es → KeepsSeen f h es
+keeps_same f g h es same kept = keeps_alike f g f h es (λ j. refl) same kept
 
 -- ---- something else under one key more
 
@@ -82,6 +85,12 @@ module _ (f g : Values) (k : Key) (n : Option PathTree) (es : List (Key × Seen)
         | true ↦ λ e. subst (λ (i : Key). IsKeptBy f (set_at k n g) i (Some one)) (sym (key_eq-is j k e)) own
         | false ↦ λ e. other j (key_eq-symm k j ∙ e) (find key_cmp j es) (h.each j)
       ] refl
+
+-- a child is put into a tree
+pub keeps_stands : (f : Values) (t u : PathTree) (k : Key) (v : PathTree) (es : List (Key × Seen)) → u ≡ put t (k ∷ []) v
+    → KeepsSeen f (stands_in t) es → KeepsSeen f (stands_in u) (seen_too k (stands_in t k) (non_null v) es)
+keeps_stands f t u k v es is h =
+    keeps_same f (set_at k (non_null v) (stands_in t)) (stands_in u) _ (λ j. ap (λ (x : PathTree). stands_in x j) is ∙ child_of-put t k j v) (keeps_put f (stands_in t) k (non_null v) es h)
 
 -- ---- a child that left its place, and one that came there
 
@@ -208,10 +217,13 @@ are_seen index t before after seen h of_tree = record {
   notes = λ k e. (refl, (h.notes k e).1 ∙ of_tree k ∙ sym (value_at-children index t k));
 }
 
+pub all_new : (t : PathTree) (shown : Entries) (seen : List Seen) → All (IsSeen t shown) seen → All (IsNew shown) seen
+all_new t shown seen h = All-weaker (IsSeen t shown) (IsNew shown) (λ s e. e.1) seen h
+
 -- what is shown fits
-pub all_fit : (q : Query) (t u : PathTree) (w : Window) (seen : List Seen) → IsAllowed u → IsWindowOf q u w → All (IsSeen t (shown_in w)) seen → All IsFit seen
-all_fit q t u w seen allowed kept h = All-weaker (IsSeen t (shown_in w)) IsFit (λ s e. fit s.key s.new e.1) seen h
+pub all_fit : (q : Query) (t u : PathTree) (w : Window) (seen : List Seen) → IsAllowed u → IsWindowOf q u w → All (IsSeen t (entries_shown q u)) seen → All IsFit seen
+all_fit q t u w seen allowed kept h = All-weaker (IsSeen t (entries_shown q u)) IsFit (λ s e. fit s.key s.new e.1) seen h
   where
-    fit : (k : Key) (o : Option PathTree) → o ≡ value_at (shown_in w) k → IfSome o (λ x. (is_null x ≡ false) × (levels x ≤ 32))
+    fit : (k : Key) (o : Option PathTree) → o ≡ value_at (entries_shown q u) k → IfSome o (λ x. (is_null x ≡ false) × (levels x ≤ 32))
     fit k None e = tt
-    fit k (Some v) e = child_fits u k v allowed (shown_known q u w k v kept (sym e)).0
+    fit k (Some v) e = child_fits u k v allowed (shown_known q u w k v kept (ap (λ (es : Entries). value_at es k) (sym kept.cut.cut) ∙ sym e)).0

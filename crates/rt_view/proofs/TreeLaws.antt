@@ -1,7 +1,7 @@
 -- What is shown, as a tree and as rows.
 use Rattle.std.specs.Prelude.{◌==◌}
 use Rattle.std.proofs.Common.{◌≡◌, Bool, true, false, cond, not, ◌&&◌, ◌||◌, length, List, [], ◌∷◌, ◌++◌, map, refl, sym, ap, subst, ◌∙◌, arith, eqb-true, append-nil, Option, Some, None, is_some}
-use Rattle.std.specs.Option.{option_eq, unwrap_or}
+use Rattle.std.specs.Option.{option_eq}
 use Rattle.std.specs.Cmp.Lexicographic.{pointwise}
 use Rattle.rt_tree.specs.Leaf.{LeafValue}
 use Rattle.rt_tree.specs.PathTree.{Key, PathTree, path_eq-same, leaf_of, leaf_at-of_leaf, leaf_at-object-root, leaf_of_root, null, is_null, is_null-null, non_null, child_of, object, put, leaf_at-put, key_eq, key_eq-is}
@@ -19,10 +19,12 @@ use Rattle.rt_query.specs.laws.Select.{object-parts, object-sorted_by, select-wh
 use Rattle.rt_query.proofs.ShownLaws.{child_of-as_children, row_at-tree}
 use Rattle.rt_query.proofs.RowLaws.{shown_filtered, shown_whole}
 use Rattle.rt_view.specs.declared.change.Change.{Change}
+use Rattle.rt_view.specs.declared.kept.Kept.{Kept}
+use Rattle.rt_view.specs.declared.kept.Kept.TheVariants.{Ordered, Plain, Filtered}
 use Rattle.rt_view.specs.declared.change.Change.TheVariants.{Value}
 use Rattle.rt_view.specs.Changes.{row_changes, changes, replay, by_keys}
 use Rattle.rt_view.specs.inside.Windows.{Entries, value_at}
-use Rattle.rt_view.specs.inside.Kept.{Notes, changes_to, own_tree, SetsChild, SetsNoted, entries_shown, is_noted, leaf_in, rows_in_tree, shown_by}
+use Rattle.rt_view.specs.inside.Kept.{IsInOrder, IsKept, Notes, SetsChild, SetsNoted, changes_to, entries_shown, is_noted, leaf_in, rows_in_tree, shown_by, tree_in, window_in}
 use Rattle.rt_view.proofs.ReplayLaws.{row_at-by_keys, replay-row_changes}
 use Rattle.rt_view.proofs.TurnLaws.{row_changes-same}
 use Rattle.rt_view.proofs.Listed.{IsListed, same_listed, listed-children, value_at-children, listed-entries}
@@ -169,33 +171,16 @@ plain_same q known tree cs leaf plain is old = at cs is
         ap (λ b. b && option_eq leaf_eq leaf (leaf_of known)) (not_empty d ds) ∙ sym (other_view q known tree (λ f. some_list d ds (e ∙ f)))
 
 -- what is kept as a tree of its own, or the known one, is what is shown
-pub kept_tree : (q : Query) (t : PathTree) (tree : Option PathTree) → tree ≡ own_tree q t → unwrap_or tree t ≡ tree_of (select q t)
-kept_tree q t tree is =
-    ap (λ o. unwrap_or o t) is ∙ elim (is_filtered q) as (λ b. is_filtered q ≡ b → unwrap_or (cond b (Some (tree_of (select q t))) None) t ≡ tree_of (select q t)) [
-      | true ↦ λ e. refl
-      | false ↦ λ e. sym (select-whole q t e)
-    ] refl
+pub kept_tree : (q : Query) (t : PathTree) (kept : Kept) → IsKept q t kept → tree_in t kept ≡ tree_of (select q t)
+kept_tree q t Ordered h = sym (select-whole q t h.plain)
+kept_tree q t (Plain w) h = sym (select-whole q t h.1)
+kept_tree q t (Filtered w u) h = h.2
 
--- whether there is a tree of its own says whether the query is filtered
-pub own_filtered : (q : Query) (t x : PathTree) → Some x ≡ own_tree q t → (is_filtered q ≡ true) × (x ≡ tree_of (select q t))
-own_filtered q t x is =
-    elim (is_filtered q) as (λ b. Some x ≡ cond b (Some (tree_of (select q t))) None → (b ≡ true) × (x ≡ tree_of (select q t))) [
-      | true ↦ λ e. (refl, cc)
-      | false ↦ λ e. cc
-    ] is
-
-pub own_plain : (q : Query) (t : PathTree) → None ≡ own_tree q t → is_filtered q ≡ false
-own_plain q t is =
-    elim (is_filtered q) as (λ b. None ≡ cond b (Some (tree_of (select q t))) None → b ≡ false) [
-      | true ↦ λ e. cc
-      | false ↦ λ e. refl
-    ] is
-
-pub filtered_own : (q : Query) (t x : PathTree) → is_filtered q ≡ true → x ≡ tree_of (select q t) → Some x ≡ own_tree q t
-filtered_own q t x filtered is = ap Some is ∙ sym (ap (λ b. cond b (Some (tree_of (select q t))) None) filtered)
-
-pub plain_own : (q : Query) (t : PathTree) → is_filtered q ≡ false → None ≡ own_tree q t
-plain_own q t plain = sym (ap (λ b. cond b (Some (tree_of (select q t))) None) plain)
+-- and in the query's order
+pub kept_order : (q : Query) (t : PathTree) (kept : Kept) → IsKept q t kept → IsInOrder q t (window_in kept)
+kept_order q t Ordered h = h
+kept_order q t (Plain w) h = h.0
+kept_order q t (Filtered w u) h = h.0
 
 -- a query with no limit and no range has no limit
 pub plain_limit : (q : Query) → is_filtered q ≡ false → q.limit ≡ None

@@ -8,10 +8,10 @@ ghost use Rattle.rt_tree.specs.TreeEq.{leaf_eq};
 ghost use Rattle.rt_query.specs.Queries.{is_filtered};
 ghost use Rattle.rt_query.specs.Select.{select, tree_of};
 ghost use Rattle.rt_view.specs.Changes.{changes};
-ghost use Rattle.rt_view.specs.inside.Windows.{Entries, IsListed, shown_in};
-ghost use Rattle.rt_view.specs.inside.Kept.{IsWindowOf, SetsChild, SetsNoted, changes_to};
+ghost use Rattle.rt_view.specs.inside.Windows.{Entries};
+ghost use Rattle.rt_view.specs.inside.Kept.{IsInOrder, IsWindowOf, SetsChild, SetsNoted, changes_to};
 ghost use Rattle.rt_view.specs.inside.Kept.{entries_shown, removed_of, shown_by};
-ghost use Rattle.rt_view.specs.inside.Telling.{AreSeen, IsFit, IsSeen, IsSeenIn, given_of, keys_in};
+ghost use Rattle.rt_view.specs.inside.Telling.{AreSeen, IsFit, IsNew, IsSeen, given_of, keys_in};
 
 use crate::change::{Change, removed};
 use crate::change_list::ChangeList;
@@ -63,17 +63,18 @@ fn push_given(
 fn row_changes(
     alloc: Global,
     query: &Query,
-    window: &Window,
+    known: &Tree,
+    window: Option<&Window>,
     seen: &[Seen],
 ) -> Result<Vec<Change>, AllocError>
-    requires { All (IsSeenIn window.now.children.range query.now.index) seen.now }
+    requires order { IsInOrder query.now known.now (option_copied window) }
+    requires seen { All (IsNew (entries_shown query.now known.now)) seen.now }
     ensures { IfOk result (λ changes. (t : PathTree)
-        → IsListed query.now.index (shown_in window.now)
-        → AreSeen query.now.index t (shown_in window.now) seen.now
-        → changes.items ≡ changes_to query.now.index t (shown_in window.now)) }
+        → AreSeen query.now.index t (entries_shown query.now known.now) seen.now
+        → changes.items ≡ changes_to query.now.index t (entries_shown query.now known.now)) }
 {
     let index = query.index();
-    let found = find_all_told(alloc, query, window, seen)?;
+    let found = find_all_told(alloc, query, known, window, seen)?;
     let now = found.now.as_slice();
     let mut changes = Vec::new(alloc);
     push_removed(&mut changes, alloc, found.gone.as_slice())?;
@@ -126,7 +127,7 @@ pub fn tell_filtered(
     requires filtered { is_filtered query.now ≡ true }
     requires object { leaf_of tree.old ≡ None }
     requires kept { IsWindowOf query.now known.now window.now }
-    requires seen { AreSeen query.now.index tree.old (shown_in window.now) seen.now }
+    requires seen { AreSeen query.now.index tree.old (entries_shown query.now known.now) seen.now }
     ensures tree { OnOk result (tree.new ≡ tree_of (select query.now known.now)) }
     ensures changes { IfOk result (λ list. list
         ≡ changes query.now.index (Some (shown_by query.now.index tree.old))
@@ -134,7 +135,7 @@ pub fn tell_filtered(
 {
     // For the prover: each known child fits below a key.
     let _ = known.children();
-    let mut changes = row_changes(alloc, query, window, seen)?;
+    let mut changes = row_changes(alloc, query, known, Some(window), seen)?;
     if changes.is_empty() {
         return Ok(ChangeList::of(changes));
     }
@@ -191,18 +192,19 @@ pub fn tell_plain(
     alloc: Global,
     query: &Query,
     known: &Tree,
-    window: &Window,
+    window: Option<&Window>,
     seen: &[Seen],
     leaf: Option<&Leaf>,
 ) -> Result<ChangeList, AllocError>
-    requires kept { IsWindowOf query.now known.now window.now }
+    requires order { IsInOrder query.now known.now (option_copied window) }
     requires plain { is_filtered query.now ≡ false }
+    requires seen { All (IsNew (entries_shown query.now known.now)) seen.now }
     ensures { IfOk result (λ list. (t : PathTree)
-        → AreSeen query.now.index t (shown_in window.now) seen.now
+        → AreSeen query.now.index t (entries_shown query.now known.now) seen.now
         → leaf_of t ≡ option_copied leaf.entry
         → list ≡ changes query.now.index (Some (shown_by query.now.index t))
         (select query.now known.now)) }
 {
-    let rows = row_changes(alloc, query, window, seen)?;
+    let rows = row_changes(alloc, query, known, window, seen)?;
     with_value(alloc, query, known, rows, leaf)
 }

@@ -1,18 +1,19 @@
 // What is told of the noted children, each found once.
-ghost use Rattle.std.specs.Prelude.{◌≡◌, true, All, IfOk, OnOk};
+ghost use Rattle.std.specs.Prelude.{◌≡◌, true, All, IfOk, IfSome, OnOk};
 ghost use Rattle.std.specs.Option.{option_copied, option_map_or};
 ghost use Rattle.std.specs.FinMap as map_of;
 ghost use Rattle.std.specs.FinMap.Entries.{find};
 ghost use Rattle.std.specs.Map.{values_of};
-ghost use Rattle.rt_tree.specs.PathTree.{PathTree, key_cmp};
-ghost use Rattle.rt_order.specs.Cuts.{has};
+ghost use Rattle.rt_tree.specs.PathTree.{PathTree, key_cmp, non_null};
 ghost use Rattle.rt_order.specs.Entries.{entry, entry_cmp};
-ghost use Rattle.rt_view.specs.inside.Windows.{IsListed, before, shown_in};
-ghost use Rattle.rt_view.specs.inside.Kept.{gone_at, gone_from, noted_in, rows_in_tree};
-ghost use Rattle.rt_view.specs.inside.Telling.{IsSeen, IsSeenIn, gone_too, keys_in, kept_by, put_all};
+ghost use Rattle.rt_view.specs.inside.Windows.{before};
+ghost use Rattle.rt_view.specs.inside.Kept.{CanAsk, IsInOrder, entries_shown, gone_at, gone_from, noted_in};
+ghost use Rattle.rt_view.specs.inside.Kept.{ordered_in, rows_in_tree};
+ghost use Rattle.rt_view.specs.inside.Telling.{IsNew, IsSeen, gone_too, keys_in, kept_by, put_all};
 ghost use Rattle.rt_view.specs.inside.Telling.{seen_in, seen_out, seen_too, seen_turned, told_in, told_too};
 
 use crate::change::copy_key;
+use crate::order::key_before;
 use crate::position::Position;
 use crate::rising::in_order;
 use crate::window::{Turned, Window};
@@ -238,6 +239,21 @@ pub fn in_key_order(alloc: Global, noted: Vec<Seen>) -> Result<Vec<Seen>, AllocE
     list_seen(alloc, seen)
 }
 
+// Notes what stood at a key, and what stands there now, where that isn't null.
+pub fn note_stands(
+    noted: &mut Vec<Seen>,
+    alloc: Global,
+    key: &Key,
+    old: Option<&Tree>,
+    new: &Tree,
+) -> Result<(), AllocError>
+    ensures { OnOk result (kept_by noted.new.items
+        ≡ seen_too key.now (option_copied old.entry) (non_null new.now) (kept_by noted.old.items)) }
+{
+    let new = if new.is_null() { None } else { Some(new) };
+    note(noted, alloc, key, old, new)
+}
+
 // Notes a child that is gone, at its place.
 fn put_gone(
     gone: &mut Vec<(Position, Tree)>,
@@ -260,23 +276,25 @@ fn put_told(
     now: &mut Vec<(Position, Told)>,
     alloc: Global,
     index: &Index,
-    window: &Window,
+    known: &Tree,
+    window: Option<&Window>,
     key: &Key,
     old: Option<&Tree>,
     new: &Tree,
 ) -> Result<(), AllocError>
-    requires { has window.now.children.range (entry index.now (key.now, new.now)) ≡ true }
+    requires { CanAsk known.now (option_copied window) (entry index.now (key.now, new.now)) }
     ensures { OnOk result (put_all now.new.items
         ≡ map_of.put entry_cmp (entry index.now (key.now, new.now)) (record {
           old =
               option_copied old.entry;
           new = new.now;
           after =
-              before (entry index.now (key.now, new.now)) (shown_in window.now);
+              before (entry index.now (key.now, new.now))
+              (ordered_in known.now (option_copied window.entry));
         }) (put_all now.old.items)) }
 {
     let position = Position::of(alloc, index, key, new)?;
-    let after = copy_key(window.before(&position))?;
+    let after = copy_key(key_before(known, window, &position))?;
     let old = copy_tree(alloc, old)?;
     let new = new.copy(alloc)?;
     now.push((position, Told { old, new, after }))?;
@@ -289,19 +307,21 @@ fn find_told(
     now: &mut Vec<(Position, Told)>,
     alloc: Global,
     index: &Index,
-    window: &Window,
+    known: &Tree,
+    window: Option<&Window>,
     seen: &Seen,
 ) -> Result<(), AllocError>
-    requires { IsSeenIn window.now.children.range index.now seen.now }
+    requires { IfSome seen.now.new (λ t. CanAsk known.now (option_copied window)
+        (entry index.now (seen.now.key, t))) }
     ensures gone { OnOk result (put_all gone.new.items ≡ gone_too index.now seen.now.key
         (gone_at seen.now.new seen.now.old) (put_all gone.old.items)) }
     ensures now { OnOk result (put_all now.new.items ≡ told_too index.now
-        seen.now.key seen.now.old (shown_in window.now)
+        seen.now.key seen.now.old (ordered_in known.now (option_copied window.entry))
         seen.now.new (put_all now.old.items)) }
 {
     let key = &seen.key;
     match (seen.old.as_ref(), seen.new.as_ref()) {
-        (old, Some(new)) => put_told(now, alloc, index, window, key, old, new),
+        (old, Some(new)) => put_told(now, alloc, index, known, window, key, old, new),
         (Some(old), None) => put_gone(gone, alloc, index, key, old),
         (None, None) => Ok(()),
     }
@@ -311,23 +331,33 @@ fn find_told(
 pub fn find_all_told(
     alloc: Global,
     query: &Query,
-    window: &Window,
+    known: &Tree,
+    window: Option<&Window>,
     seen: &[Seen],
 ) -> Result<Noted, AllocError>
-    requires { All (IsSeenIn window.now.children.range query.now.index) seen.now }
+    requires order { IsInOrder query.now known.now (option_copied window) }
+    requires seen { All (IsNew (entries_shown query.now known.now)) seen.now }
     ensures gone { IfOk result (λ noted. (t : PathTree)
-        → IsListed query.now.index (shown_in window.now) → All (IsSeen t (shown_in window.now)) seen.now
-        → noted.gone.items ≡ gone_from (keys_in seen.now) (shown_in window.now)
+        → All (IsSeen t (entries_shown query.now known.now)) seen.now
+        → noted.gone.items ≡ gone_from (keys_in seen.now) (entries_shown query.now known.now)
         (rows_in_tree query.now.index t)) }
     ensures now { IfOk result (λ noted. (t : PathTree)
-        → IsListed query.now.index (shown_in window.now) → All (IsSeen t (shown_in window.now)) seen.now
-        → noted.now.items ≡ told_in t (shown_in window.now)
-        (noted_in (keys_in seen.now) (shown_in window.now))) }
+        → All (IsSeen t (entries_shown query.now known.now)) seen.now
+        → noted.now.items ≡ told_in t (entries_shown query.now known.now)
+        (noted_in (keys_in seen.now) (entries_shown query.now known.now))) }
 {
     let mut gone = Vec::new(alloc);
     let mut now = Vec::new(alloc);
     for one in seen {
-        find_told(&mut gone, &mut now, alloc, query.index(), window, one)?;
+        find_told(
+            &mut gone,
+            &mut now,
+            alloc,
+            query.index(),
+            known,
+            window,
+            one,
+        )?;
     }
     let gone = in_order(alloc, gone)?;
     let now = in_order(alloc, now)?;

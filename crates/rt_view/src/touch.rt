@@ -1,4 +1,4 @@
-// Named children, put into a known tree and its window.
+// Named children, put into a known tree and its window, or into a tree in the query's order.
 ghost use Rattle.std.specs.Prelude.{◌≡◌, ◌≤◌, ◌∷◌, [], true, false, All, IfOk, OnOk, Some};
 ghost use Rattle.std.specs.Option.{option_copied};
 ghost use Rattle.rt_tree.specs.PathTree.{PathTree, child_of, levels, put};
@@ -10,15 +10,16 @@ ghost use Rattle.rt_view.specs.Views.{with_named};
 ghost use Rattle.rt_view.specs.inside.Windows.{Becomes, IsListed, IsWhole, all_of, known_in};
 ghost use Rattle.rt_view.specs.inside.Windows.{shown_in, value_at};
 ghost use Rattle.rt_view.specs.inside.Turns.{Comes, Leaves, Stands, Values};
-ghost use Rattle.rt_view.specs.inside.Kept.{IsWindowOf, brought_in, wholly};
+ghost use Rattle.rt_view.specs.inside.Kept.{ComesToWord, IsOrdered, IsWindowOf, NameWords};
+ghost use Rattle.rt_view.specs.inside.Kept.{brought_in, rows_in_tree, stands_in, wholly};
 ghost use Rattle.rt_view.specs.inside.Telling.{AllSeen, KeepsSeen, kept_by, left_by, takes_place};
 
-use crate::alone::changes_alone;
+use crate::alone::tell_alone;
 use crate::change_list::ChangeList;
 use crate::place::{child_at, copy_leaf, put_child};
 use crate::position::Position;
-use crate::tell::{tell_filtered, tell_plain, with_value};
-use crate::told::{Seen, copy_tree, in_key_order, note_turned};
+use crate::tell::{tell_filtered, tell_plain};
+use crate::told::{Seen, copy_tree, in_key_order, note_stands, note_turned};
 use crate::window::{Turned, Window};
 use rt_order::{Index, sort_value, value_cmp};
 use rt_query::Query;
@@ -94,34 +95,6 @@ fn bring_in(
     window.put(alloc, position, child)
 }
 
-// Puts one child in the place of the one at its key, and tells what changes. The query isn't filtered,
-// so the known tree is what is shown, and crosses no limit. What stood at the key is found once: where
-// the new one goes, and what is told of it, follow from that.
-fn touch_alone(
-    known: &mut Tree,
-    window: &mut Window,
-    alloc: Global,
-    query: &Query,
-    key: &Key,
-    child: &Tree,
-) -> Result<ChangeList, AllocError>
-    requires kept { IsWindowOf query.now known.old window.old }
-    requires plain { is_filtered query.now ≡ false }
-    requires fits { levels child.now ≤ MAX_KEYS }
-    ensures put { OnOk result (known.new ≡ put known.old (key.now ∷ []) child.now) }
-    ensures kept { OnOk result (IsWindowOf query.now known.new window.new) }
-    ensures changes { IfOk result (λ list. list ≡ changes query.now.index
-        (Some (select query.now known.old)) (select query.now known.new)) }
-{
-    let old = child_at(known, key);
-    drop(take_out(window, alloc, query, key, old, child)?);
-    drop(bring_in(window, alloc, query, key, child)?);
-    let rows = changes_alone(alloc, query.index(), window, key, old, child)?;
-    let leaf = copy_leaf(alloc, known)?;
-    put_child(known, alloc, key, child)?;
-    with_value(alloc, query, known, rows, leaf.as_ref())
-}
-
 // Puts a child in the place of the one at its key, in the known tree and in its window. What stood at the
 // key is found once; what is shown otherwise since, there and for the cut that moves, is noted.
 fn touch_child(
@@ -172,8 +145,7 @@ fn touch_all(
 }
 
 // Puts the named children in their places, and tells what changes. The query isn't filtered, so the
-// known tree is what is shown, and crosses no limit: the named children are all that change. Each is
-// found once.
+// known tree is what is shown.
 pub fn touch_plain(
     known: &mut Tree,
     window: &mut Window,
@@ -189,14 +161,17 @@ pub fn touch_plain(
     ensures changes { IfOk result (λ list. list ≡ changes query.now.index
         (Some (select query.now known.old)) (select query.now known.new)) }
 {
-    if let Some((first, rest)) = named.split_first() {
-        if rest.is_empty() {
-            return touch_alone(known, window, alloc, query, &first.0, &first.1);
-        }
-    }
     let leaf = copy_leaf(alloc, known)?;
     let seen = touch_all(known, window, alloc, query, named)?;
-    tell_plain(alloc, query, known, window, seen.as_slice(), leaf.as_ref())
+    let window: &Window = window;
+    tell_plain(
+        alloc,
+        query,
+        known,
+        Some(window),
+        seen.as_slice(),
+        leaf.as_ref(),
+    )
 }
 
 // Puts the named children in their places, and tells what changes. What a filtered query shows stands
@@ -221,4 +196,91 @@ pub fn touch_filtered(
 {
     let seen = touch_all(known, window, alloc, query, named)?;
     tell_filtered(tree, alloc, query, known, window, seen.as_slice())
+}
+
+// Puts one child in the place of the one at its key, in a tree in the query's order, and tells what
+// changes.
+fn touch_alone(
+    known: &mut Tree,
+    alloc: Global,
+    query: &Query,
+    key: &Key,
+    child: &Tree,
+) -> Result<ChangeList, AllocError>
+    requires kept { IsOrdered query.now known.old }
+    requires word { ComesToWord (key.now, child.now) }
+    requires fits { levels child.now ≤ MAX_KEYS }
+    ensures put { OnOk result (known.new ≡ put known.old (key.now ∷ []) child.now) }
+    ensures kept { OnOk result (IsOrdered query.now known.new) }
+    ensures changes { IfOk result (λ list. list ≡ changes query.now.index
+        (Some (select query.now known.old)) (select query.now known.new)) }
+{
+    let old = copy_tree(alloc, child_at(known, key))?;
+    let leaf = copy_leaf(alloc, known)?;
+    put_child(known, alloc, key, child)?;
+    tell_alone(alloc, query, known, key, old.as_ref(), child, leaf.as_ref())
+}
+
+// Puts a child in the place of the one at its key, in a tree in the query's order. What stood there and
+// what stands there now is noted.
+fn touch_there(
+    known: &mut Tree,
+    noted: &mut Vec<Seen>,
+    alloc: Global,
+    key: &Key,
+    child: &Tree,
+) -> Result<(), AllocError>
+    requires { levels child.now ≤ MAX_KEYS }
+    ensures put { OnOk result (known.new ≡ put known.old (key.now ∷ []) child.now) }
+    ensures seen { OnOk result ((first : Values)
+        → KeepsSeen first (stands_in known.old) (kept_by noted.old.items)
+        → KeepsSeen first (stands_in known.new) (kept_by noted.new.items)) }
+{
+    let old = copy_tree(alloc, child_at(known, key))?;
+    put_child(known, alloc, key, child)?;
+    note_stands(noted, alloc, key, old.as_ref(), child)
+}
+
+// Puts the named children in their places, in a tree in the query's order. What stood and what stands
+// at their keys is noted, in their order.
+fn touch_each(
+    known: &mut Tree,
+    alloc: Global,
+    named: &[(Key, Tree)],
+) -> Result<Vec<Seen>, AllocError>
+    requires { All (λ c. levels c.1 ≤ MAX_KEYS) named.now }
+    ensures put { OnOk result (known.new ≡ with_named known.old named.now) }
+    ensures seen { IfOk result (λ seen.
+        AllSeen (rows_in_tree Index.Key known.old) (rows_in_tree Index.Key known.new) seen.items) }
+{
+    let mut noted = Vec::with_capacity(alloc, named.len())?;
+    for (key, child) in named {
+        touch_there(known, &mut noted, alloc, key, child)?;
+    }
+    in_key_order(alloc, noted)
+}
+
+// Puts the named children in their places, in a tree in the query's order, and tells what changes.
+pub fn touch_ordered(
+    known: &mut Tree,
+    alloc: Global,
+    query: &Query,
+    named: &[(Key, Tree)],
+) -> Result<ChangeList, AllocError>
+    requires kept { IsOrdered query.now known.old }
+    requires words { NameWords named.now }
+    requires fits { All (λ c. levels c.1 ≤ MAX_KEYS) named.now }
+    ensures put { OnOk result (known.new ≡ with_named known.old named.now) }
+    ensures kept { OnOk result (IsOrdered query.now known.new) }
+    ensures changes { IfOk result (λ list. list ≡ changes query.now.index
+        (Some (select query.now known.old)) (select query.now known.new)) }
+{
+    if let Some((first, rest)) = named.split_first() {
+        if rest.is_empty() {
+            return touch_alone(known, alloc, query, &first.0, &first.1);
+        }
+    }
+    let leaf = copy_leaf(alloc, known)?;
+    let seen = touch_each(known, alloc, named)?;
+    tell_plain(alloc, query, known, None, seen.as_slice(), leaf.as_ref())
 }

@@ -1,22 +1,18 @@
 // A view, changed child by child.
 ghost use Rattle.std.specs.Prelude.{◌≡◌, ◌≤◌, ◌↔◌, true, All, IfOk, OnOk, OnErr};
 ghost use Rattle.std.specs.Prelude.{IsTrue, None, Some, Err};
-ghost use Rattle.std.specs.Option.{option_copied, unwrap_or};
 ghost use Rattle.rt_tree.specs.PathTree.{levels};
 ghost use Rattle.rt_query.specs.Select.{select};
 ghost use Rattle.rt_view.specs.Changes.{changes};
 ghost use Rattle.rt_view.specs.Errors.{code_of, name_of};
 ghost use Rattle.rt_view.specs.Views.{first_view, leaves_child, renewed, shown_of, stays_object, told};
-ghost use Rattle.rt_view.specs.Views.{touched, with_named};
-ghost use Rattle.rt_view.specs.inside.Kept.{IsKept, IsWindowOf, own_tree};
+ghost use Rattle.rt_view.specs.Views.{touched};
 
 use crate::change_list::ChangeList;
 use crate::compare::changes;
-use crate::difference::few_differing;
+use crate::kept::{Kept, kept_anew, renew_kept, shown_of, touch_kept};
 use crate::others::has_other;
-use crate::place::{copy_leaf, count, object_of, window_of};
-use crate::touch::{touch_filtered, touch_plain};
-use crate::window::Window;
+use crate::place::count;
 use rt_query::{Query, Shown};
 use rt_tree::{Key, MAX_KEYS, Tree};
 use std::alloc::{AllocError, Global};
@@ -73,8 +69,7 @@ impl From<AllocError> for ViewError {
 pub struct View {
     query: Query,
     known: Tree,
-    window: Window,
-    tree: Option<Tree>,
+    kept: Kept,
     reads: u64,
     turns: u64,
     failed: bool,
@@ -85,8 +80,7 @@ impl Drop for View {
         let View {
             query: _,
             known: _,
-            window: _,
-            tree: _,
+            kept: _,
             reads: _,
             turns: _,
             failed: _,
@@ -109,135 +103,7 @@ impl Model for View {
       failed = a.failed;
     } };
 
-    ghost invariant = { λ a. a.failed ≡ false → IsKept a.query a.known a.window a.tree };
-}
-
-// What is shown as a tree of its own, which only a filtered query has: the object of the rows.
-fn own_tree(
-    alloc: Global,
-    query: &Query,
-    known: &Tree,
-    window: &Window,
-) -> Result<Option<Tree>, AllocError>
-    requires { IsWindowOf query.now known.now window.now }
-    ensures { IfOk result (λ tree. tree ≡ own_tree query.now known.now) }
-{
-    if !query.is_filtered() {
-        return Ok(None);
-    }
-    // For the prover: each known child fits below a key.
-    let _ = known.children();
-    let shown = window.rows(alloc)?;
-    let tree = object_of(alloc, shown.as_slice())?;
-    Ok(Some(tree))
-}
-
-// What is shown as a tree: one of its own, or the known one.
-fn shown_tree<'a>(known: &'a Tree, tree: Option<&'a Tree>) -> &'a Tree
-    ensures { result.now ≡ unwrap_or (option_copied tree.entry) known.now }
-{
-    match tree {
-        Some(tree) => tree,
-        None => known,
-    }
-}
-
-// What is shown, by what is kept.
-fn shown_of(
-    query: &Query,
-    known: &Tree,
-    window: &Window,
-    tree: Option<&Tree>,
-) -> Result<Shown, AllocError>
-    requires { IsKept query.now known.now window.now (option_copied tree) }
-    ensures { IfOk result (λ shown. shown ≡ select query.now known.now) }
-{
-    let alloc = query.path().allocator();
-    let whole = shown_tree(known, tree);
-    let leaf = copy_leaf(alloc, whole)?;
-    let rows = window.rows(alloc)?;
-    let whole = whole.copy(alloc)?;
-    Ok(Shown::of(leaf, rows, whole))
-}
-
-// What is kept of a tree, and what is shown of it.
-fn kept_of(
-    alloc: Global,
-    query: &Query,
-    known: &Tree,
-) -> Result<(Window, Option<Tree>, Shown), AllocError>
-    ensures kept { IfOk result (λ p. IsKept query.now known.now p.0 p.1) }
-    ensures shown { IfOk result (λ p. p.2 ≡ select query.now known.now) }
-{
-    let window = window_of(alloc, query, known)?;
-    let tree = own_tree(alloc, query, known, &window)?;
-    let shown = shown_of(query, known, &window, tree.as_ref())?;
-    Ok((window, tree, shown))
-}
-
-// Puts the named children in their places, and tells what changes.
-fn touch_kept(
-    known: &mut Tree,
-    window: &mut Window,
-    tree: &mut Option<Tree>,
-    alloc: Global,
-    query: &Query,
-    named: &[(Key, Tree)],
-) -> Result<ChangeList, AllocError>
-    requires kept { IsKept query.now known.old window.old tree.old }
-    requires fits { All (λ c. levels c.1 ≤ MAX_KEYS) named.now }
-    ensures put { OnOk result (known.new ≡ with_named known.old named.now) }
-    ensures kept { OnOk result (IsKept query.now known.new window.new tree.new) }
-    ensures changes { IfOk result (λ list. list ≡ changes query.now.index
-        (Some (select query.now known.old)) (select query.now known.new)) }
-{
-    match tree {
-        Some(tree) => touch_filtered(known, window, tree, alloc, query, named),
-        None => touch_plain(known, window, alloc, query, named),
-    }
-}
-
-// Makes what is kept of another tree anew, and tells what changes.
-fn make_anew(
-    known: &Tree,
-    window: &mut Window,
-    tree: &mut Option<Tree>,
-    alloc: Global,
-    query: &Query,
-    new: &Tree,
-) -> Result<ChangeList, AllocError>
-    requires kept { IsKept query.now known.now window.old tree.old }
-    ensures kept { OnOk result (IsKept query.now new.now window.new tree.new) }
-    ensures changes { IfOk result (λ list. list ≡ changes query.now.index
-        (Some (select query.now known.now)) (select query.now new.now)) }
-{
-    let old = shown_of(query, known, window, tree.as_ref())?;
-    let (made, own, shown) = kept_of(alloc, query, new)?;
-    let changes = changes(alloc, query.index(), Some(&old), &shown)?;
-    drop(replace(window, made));
-    drop(replace(tree, own));
-    Ok(changes)
-}
-
-// Turns what is kept of one tree into what is kept of another one, and tells what changes: child by
-// child, where few differ.
-fn renew_kept(
-    known: &mut Tree,
-    window: &mut Window,
-    tree: &mut Option<Tree>,
-    alloc: Global,
-    query: &Query,
-    new: &Tree,
-) -> Result<ChangeList, AllocError>
-    requires kept { IsKept query.now known.old window.old tree.old }
-    ensures kept { OnOk result (IsKept query.now new.now window.new tree.new) }
-    ensures changes { IfOk result (λ list. list ≡ changes query.now.index
-        (Some (select query.now known.old)) (select query.now new.now)) }
-{
-    let Some(named) = few_differing(alloc, known, new)? else {
-        return make_anew(known, window, tree, alloc, query, new);
-    };
-    touch_kept(known, window, tree, alloc, query, named.as_slice())
+    ghost invariant = { λ a. a.failed ≡ false → IsKept a.query a.known a.kept };
 }
 
 // Whether a child is there once the named ones are put in.
@@ -259,14 +125,13 @@ impl View {
         ensures view { IfOk result (λ p. p.0 ≡ first_view query known) }
         ensures changes { IfOk result (λ p. p.1 ≡ changes query.index None (select query known)) }
     {
-        let (window, tree, shown) = kept_of(alloc, &query, &known)?;
+        let (kept, shown) = kept_anew(alloc, &query, &known)?;
         let changes = changes(alloc, query.index(), None, &shown)?;
         let reads = count(&known);
         let view = View {
             query,
             known,
-            window,
-            tree,
+            kept,
             reads,
             turns: 1,
             failed: false,
@@ -296,14 +161,8 @@ impl View {
             self.turns = self.turns.wrapping_add(1);
             return Ok(ChangeList::of(Vec::new(alloc)));
         }
-        let Ok(changes) = renew_kept(
-            &mut self.known,
-            &mut self.window,
-            &mut self.tree,
-            alloc,
-            &self.query,
-            &known,
-        ) else {
+        let Ok(changes) = renew_kept(&mut self.known, &mut self.kept, alloc, &self.query, &known)
+        else {
             self.failed = true;
             return Err(ViewError::NoMemory);
         };
@@ -331,14 +190,7 @@ impl View {
         }
         self.failed = true;
         let named = named.as_slice();
-        let changes = touch_kept(
-            &mut self.known,
-            &mut self.window,
-            &mut self.tree,
-            alloc,
-            &self.query,
-            named,
-        )?;
+        let changes = touch_kept(&mut self.known, &mut self.kept, alloc, &self.query, named)?;
         self.reads = named.len() as u64;
         self.turns = self.turns.wrapping_add(1);
         self.failed = false;
@@ -363,7 +215,7 @@ impl View {
         if self.failed {
             return Err(ViewError::Failed);
         }
-        let shown = shown_of(&self.query, &self.known, &self.window, self.tree.as_ref())?;
+        let shown = shown_of(&self.query, &self.known, &self.kept)?;
         Ok(shown)
     }
 

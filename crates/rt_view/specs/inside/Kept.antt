@@ -1,15 +1,20 @@
 -- What a view keeps, and how a child is put and taken out.
-use Rattle.std.specs.Prelude.{◌≡◌, Bool, false, not, ◌&&◌, if◌then◌else◌, List, [], map}
+use Rattle.std.specs.Prelude.{◌≡◌, Bool, true, false, not, ◌&&◌, if◌then◌else◌, List, [], map}
 use Rattle.std.specs.Prelude.{Option, Some, None, is_some}
-use Rattle.std.specs.List.{filter, list_any}
+use Rattle.std.specs.List.{AllByRecursion, filter, list_any}
 use Rattle.rt_tree.specs.PathTree.{Key, PathTree, key_eq, is_null, leaf_of, child_of}
 use Rattle.rt_tree.specs.Children.{children_of}
 use Rattle.rt_tree.specs.Leaf.{LeafValue}
 use Rattle.rt_order.specs.declared.index.Index.{Index}
+use Rattle.rt_order.specs.declared.index.Index.TheVariants as index
+use Rattle.rt_order.specs.KeyOrder.{integer_of}
+use Rattle.rt_order.specs.Values.{Null}
 use Rattle.rt_order.specs.Entries.{Entry, entry}
 use Rattle.rt_order.specs.Cuts.{has}
 use Rattle.rt_query.specs.Queries.{Query, is_filtered}
 use Rattle.rt_query.specs.Select.{Shown, limited, sorted_by, select, tree_of, row_of}
+use Rattle.rt_view.specs.declared.kept.Kept.{Kept}
+use Rattle.rt_view.specs.declared.kept.Kept.TheVariants.{Ordered, Plain, Filtered}
 use Rattle.rt_view.specs.declared.window.Window.{Window}
 use Rattle.rt_view.specs.declared.change.Change.{Change}
 use Rattle.rt_view.specs.declared.change.Change.TheVariants.{Removed}
@@ -43,15 +48,57 @@ pub record IsWindowOf (query : Query) (known : PathTree) (window : Window) : Typ
   pub cut : IsWindow query.limit (shown_in window) (rest_in window)
       (in_order query (children_of known))
 
--- what is shown as a tree of its own, which only a filtered query has: another one shows all that is known
-abbrev pub own_tree : Query → PathTree → Option PathTree
-own_tree q t = if is_filtered q then Some (tree_of (select q t)) else None
+-- none of these children has an integer key
+abbrev pub AreWords : List (Key × PathTree) → Type 0
+AreWords cs = AllByRecursion (λ c. integer_of c.0 ≡ None) cs
 
--- what is kept: the window of the known tree, and what is shown as a tree of its own
-pub record IsKept (query : Query) (known : PathTree) (window : Window) (shown : Option PathTree)
-    : Type 0 where
-  pub children : IsWindowOf query known window
-  pub tree : shown ≡ own_tree query known
+-- an unfiltered query by key shows the children of a tree as they stand there, if none has an integer key
+pub record IsOrdered (query : Query) (known : PathTree) : Type 0 where
+  pub plain : is_filtered query ≡ false
+  pub index : query.index ≡ index.Key
+  pub words : AreWords (children_of known)
+
+-- the query's order: the tree's own, or that of a window
+abbrev pub IsInOrder : Query → PathTree → Option Window → Type 0
+IsInOrder query known None = IsOrdered query known
+IsInOrder query known (Some window) = IsWindowOf query known window
+
+-- what is kept of a known tree: nothing, if it is in the query's order; its window; or with that what a
+-- filtered query shows as a tree of its own
+abbrev pub IsKept : Query → PathTree → Kept → Type 0
+IsKept query known Ordered = IsOrdered query known
+IsKept query known (Plain window) = IsWindowOf query known window × (is_filtered query ≡ false)
+IsKept query known (Filtered window tree) = IsWindowOf query known window × (is_filtered query ≡ true)
+    × (tree ≡ tree_of (select query known))
+
+-- what is shown as a tree: one of its own, or the known one
+abbrev pub tree_in : PathTree → Kept → PathTree
+tree_in known Ordered = known
+tree_in known (Plain window) = known
+tree_in known (Filtered window tree) = tree
+
+-- the window that is kept, if one is
+abbrev pub window_in : Kept → Option Window
+window_in Ordered = None
+window_in (Plain window) = Some window
+window_in (Filtered window tree) = Some window
+
+-- the children in order: of a window, or by their keys as they stand in a tree
+abbrev pub ordered_in : PathTree → Option Window → Entries
+ordered_in known None = entries_of index.Key (children_of known)
+ordered_in known (Some window) = shown_in window
+
+-- none of the named children comes to an integer key
+abbrev pub ComesToWord : Key × PathTree → Type 0
+ComesToWord c = is_null c.1 ≡ false → integer_of c.0 ≡ None
+
+abbrev pub NameWords : List (Key × PathTree) → Type 0
+NameWords cs = AllByRecursion ComesToWord cs
+
+-- an entry of which the child before can be asked
+abbrev pub CanAsk : PathTree → Option Window → Entry → Type 0
+CanAsk known None e = (e.0 ≡ Null) × (integer_of e.1 ≡ None) × AreWords (children_of known)
+CanAsk known (Some window) e = has window.children.range e ≡ true
 
 -- the leaf that is shown of a tree
 abbrev pub leaf_in : Query → PathTree → Option LeafValue
@@ -60,6 +107,10 @@ leaf_in q t = if is_filtered q then None else leaf_of t
 -- the children of what is shown, in order
 abbrev pub rows_in_tree : Index → PathTree → Entries
 rows_in_tree index t = sorted_by index (children_of t)
+
+-- what stands under a key of a tree
+abbrev pub stands_in : PathTree → Key → Option PathTree
+stands_in t k = child_of (children_of t) k
 
 -- what is shown, read off its tree
 abbrev pub shown_by : Index → PathTree → Shown

@@ -16,10 +16,6 @@ inside r es = filter (λ e. has r e.0) es
 abbrev pub outside : Range → List (Entry × PathTree) → List (Entry × PathTree)
 outside r es = filter (λ e. not (has r e.0)) es
 
--- each entry lies in the range
-abbrev pub HasEach : Range → Type 0
-HasEach r = (e : Entry) → has r e ≡ true
-
 -- all children in two halves, and a range
 pub record Spread : Type 0 where
   pub range : Range

@@ -1,5 +1,5 @@
 -- What is told of the noted children, each found once.
-use Rattle.std.specs.Prelude.{◌≡◌, ◌≤◌, Bool, true, false, not, ◌&&◌, ◌||◌, if◌then◌else◌, List, [], map, Option}
+use Rattle.std.specs.Prelude.{◌≡◌, ◌≤◌, Bool, false, not, ◌&&◌, ◌||◌, if◌then◌else◌, List, [], map, Option}
 use Rattle.std.specs.Prelude.{Some, None, IfSome, T}
 use Rattle.std.specs.List.{All, filter, fold}
 use Rattle.std.specs.Ordering.{is_eq}
@@ -9,8 +9,6 @@ use Rattle.std.specs.Option.{option_map_or}
 use Rattle.rt_tree.specs.PathTree.{Key, PathTree, key_cmp, is_null, levels, child_of}
 use Rattle.rt_tree.specs.Children.{children_of}
 use Rattle.rt_order.specs.declared.index.Index.{Index}
-use Rattle.rt_order.specs.declared.cut.Range.{Range}
-use Rattle.rt_order.specs.Cuts.{has}
 use Rattle.rt_order.specs.Entries.{Entry, entry, entry_cmp, sort_value}
 use Rattle.rt_order.specs.Values.{value_cmp}
 use Rattle.rt_query.specs.Queries.{Query}
@@ -49,9 +47,9 @@ IsSeen t shown s = (s.old ≡ child_of (children_of t) s.key) × (s.new ≡ valu
 abbrev pub IsFit : Seen → Type 0
 IsFit s = IfSome s.new (λ t. (is_null t ≡ false) × (levels t ≤ 32))
 
--- what is shown now lies in a range
-abbrev pub IsSeenIn : Range → Index → Seen → Type 0
-IsSeenIn range index s = IfSome s.new (λ t. has range (entry index (s.key, t)) ≡ true)
+-- what is shown now
+abbrev pub IsNew : Entries → Seen → Type 0
+IsNew shown s = s.new ≡ value_at shown s.key
 
 -- what was shown of a tree and what is shown now, where under other keys than these the same is shown
 pub record AreSeen (index : Index) (t : PathTree) (shown : Entries) (seen : List Seen) : Type 0 where

@@ -1,4 +1,4 @@
-use Rattle.std.proofs.Common.{◌≡◌, arith}
+use Rattle.std.proofs.Common.{arith}
 use Rattle.rt_view.proofs.RisingLaws.{kept_rising}
 use Rattle.rt_view.proofs.told.have_rising_keys.Goals as goal
 

@@ -23,7 +23,8 @@ tell_filtered-requires-clause-seen c =
     ap (rows_in_tree q.index) c.requires.tree ∙ rows_in_tree-shown q c.args.known.now ∙ c.requires.kept.cut.cut in
     let of_tree : (k : Key) → value_at (shown_in c.args.window.now) k ≡ child_of (children_of t) k =
     λ k. ap (λ (es : Entries). value_at es k) (sym same) ∙ value_at-children q.index t k in
-    subst (AreSeen q.index t (shown_in w)) (sym c.as_slice.ensures.value) (are_seen q.index t (shown_in c.args.window.now) (shown_in w) _ c.in_ok-seen.ensures.seen of_tree)
+    let seen = subst (AreSeen q.index t (shown_in w)) (sym c.as_slice.ensures.value) (are_seen q.index t (shown_in c.args.window.now) (shown_in w) _ c.in_ok-seen.ensures.seen of_tree) in
+    subst (λ (es : Entries). AreSeen q.index t es c.as_slice.result.now) (sym c.in_ok-seen.ensures.kept.cut.cut) seen
 
 pub returns-clause-changes : goal.returns-clause-changes
 returns-clause-changes c =

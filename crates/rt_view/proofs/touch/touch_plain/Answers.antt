@@ -20,7 +20,8 @@ returns-clause-changes c =
     subst (AreSeen q.index t (shown_in w)) (sym c.as_slice.ensures.value)
     (are_seen q.index t (shown_in c.args.window.now) (shown_in w) _ c.in_ok-seen.ensures.seen
     (λ k. ap (λ (es : Entries). value_at es k) (sym c.requires.kept.cut.cut) ∙ plain_value q t k c.requires.plain)) in
+    let shown = subst (λ (es : Entries). AreSeen q.index t es c.as_slice.result.now) (sym c.in_ok-seen.ensures.kept.cut.cut) seen in
     let leaf : leaf_of t ≡ option_copied c.as_ref.result = search rules in
     IfOk-weaker c.tell_plain.result _ _
-    (λ list told. told t seen leaf ∙ ap (λ v. changes q.index (Some v) (select q c.touch_all.new.known)) (plain_shown q t c.requires.plain))
+    (λ list told. told t shown leaf ∙ ap (λ v. changes q.index (Some v) (select q c.touch_all.new.known)) (plain_shown q t c.requires.plain))
     c.tell_plain.ensures

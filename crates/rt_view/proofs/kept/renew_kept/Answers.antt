@@ -5,7 +5,7 @@ use Rattle.rt_view.specs.Changes.{changes}
 use Rattle.rt_view.specs.Views.{with_named}
 use Rattle.rt_view.specs.inside.Kept.{IsKept}
 use Rattle.rt_view.proofs.DifferLaws.{if_both}
-use Rattle.rt_view.proofs.view.renew_kept.Goals as goal
+use Rattle.rt_view.proofs.kept.renew_kept.Goals as goal
 
 pub returns-clause-kept : goal.returns-clause-kept
 returns-clause-kept c =
@@ -13,7 +13,7 @@ returns-clause-kept c =
     let turned : with_named c.args.known.now c.in-Some.named.items ≡ c.args.new.now = search rules in
     let named = ap (with_named c.args.known.now) c.as_slice.ensures.value in
     if_both c.touch_kept.result _ _
-    (λ list put kept. subst (λ (t : PathTree). IsKept q t c.touch_kept.new.window c.touch_kept.new.tree) (put ∙ named ∙ turned) kept)
+    (λ list put kept. subst (λ (t : PathTree). IsKept q t c.touch_kept.new.kept) (put ∙ named ∙ turned) kept)
     c.touch_kept.ensures.put c.touch_kept.ensures.kept
 
 pub returns-clause-changes : goal.returns-clause-changes

@@ -1,6 +1,6 @@
 use Rattle.std.proofs.Common.{◌≡◌, ◌∙◌, rules, Some}
 use Rattle.rt_view.specs.Changes.{changes}
-use Rattle.rt_view.proofs.view.make_anew.Goals as goal
+use Rattle.rt_view.proofs.kept.make_anew.Goals as goal
 
 pub returns-clause-changes : goal.returns-clause-changes
 returns-clause-changes c =

@@ -1,0 +1,22 @@
+use Rattle.std.proofs.Common.{◌≡◌, ap, sym, subst, ◌∙◌, Option, rules}
+use Rattle.std.specs.Option.{option_copied}
+use Rattle.std.proofs.lemmas.Result.{IfOk-weaker}
+use Rattle.rt_tree.specs.PathTree.{PathTree, child_of, non_null}
+use Rattle.rt_tree.specs.Children.{children_of}
+use Rattle.rt_view.specs.inside.Kept.{stands_in}
+use Rattle.rt_view.specs.inside.Telling.{KeepsSeen, kept_by, seen_too}
+use Rattle.rt_view.proofs.SeenLaws.{keeps_stands}
+use Rattle.rt_view.proofs.touch.touch_there.Goals as goal
+
+pub returns-clause-seen : goal.returns-clause-seen
+returns-clause-seen c =
+    let t : PathTree = c.args.known.now in
+    let u : PathTree = c.put_child.new.tree in
+    let k = c.args.key.now in
+    let v = c.args.child.now in
+    let es = kept_by c.args.noted.now.items in
+    let old : option_copied c.as_ref.result ≡ child_of (children_of t) k = search rules in
+    IfOk-weaker c.note_stands.result _ _
+    (λ x told f h. subst (KeepsSeen f (stands_in u)) (sym (told ∙ ap (λ (o : Option PathTree). seen_too k o (non_null v) es) old))
+    (keeps_stands f t u k v es c.in_ok-put_child.ensures h))
+    c.note_stands.ensures
