@@ -5,17 +5,19 @@ use Rattle.std.specs.List.{All, AllPairs, cons_option, filter, filter_map, find,
 use Rattle.std.proofs.lemmas.List.Elements.{All-cons, All-head, All-tail}
 use Rattle.std.proofs.lemmas.List.Folds.{list_any_more}
 use Rattle.rt_cover.specs.laws.Pairs.{AllPairs-map}
-use Rattle.rt_tree.specs.PathTree.{path_eq}
+use Rattle.rt_tree.specs.PathTree.{Path, path_eq}
+use Rattle.rt_tree.specs.TreeEq.{both_first}
 use Rattle.rt_query.specs.Queries.{Query}
 use Rattle.rt_query.specs.QueryEq.{query_eq}
-use Rattle.rt_query.specs.Supply.{form}
+use Rattle.rt_query.specs.Supply.{does_supply, form}
 use Rattle.rt_world.specs.declared.report.Note.{Note}
 use Rattle.rt_world.specs.World.{Listener, Reason}
 use Rattle.rt_writes.specs.laws.Places.{filter_none_found}
 use Rattle.rt_parts.specs.Listeners.{cancelled_note}
 use Rattle.rt_parts.specs.declared.held.Held.{Held}
-use Rattle.rt_parts.specs.inside.HeldView.{ended_among, ended_at, HaveForm, listener_of, listeners_of}
-use Rattle.rt_parts.proofs.IndexLaws.{form_path, only_at_path, own_form}
+use Rattle.rt_parts.specs.inside.HeldView.{ended_among, ended_at, HaveForm, HaveSupplied, listener_of, listeners_of}
+use Rattle.rt_parts.specs.Refreshed.{is_supplied_at}
+use Rattle.rt_parts.proofs.IndexLaws.{form_path, only_at_path, own_test}
 use Rattle.rt_parts.proofs.Numbered as by
 use Rattle.rt_parts.proofs.RefreshLaws.{drop_is, later}
 use Rattle.rt_parts.proofs.SameLaws.{any_filter}
@@ -94,15 +96,29 @@ any_kept m t ns = any_filter (λ n. m == n) t ns ∙ each ns
           | false ↦ λ e. gone (t n) (list_any (λ n. m == n) ns && t m)
         ] refl
 
--- of numbers among which those at its path are, the ones that are kept are those of the form
+-- of numbers among which those at a path are, the ones that are kept are those of the listeners that pass,
+-- where these are of the path
+have_those : (test : Held → Bool) (p : Path) (ns : List ℕ) (held : List Held) → AllPairs (λ (l m : Held). l.number < m.number) held
+    → All (λ (h : Held). path_eq h.query.path p ≡ true → list_any (λ n. h.number == n) ns ≡ true) held → ((h : Held) → test h ≡ true → path_eq h.query.path p ≡ true)
+    → All (λ (h : Held). list_any (λ n. h.number == n) (filter (λ n. list_any (λ (l : Held). l.number == n && test l) held) ns) ≡ test h) held
+have_those test p ns held up all at k d lt =
+    let h : Held = get_or held k d in
+    any_kept h.number (λ n. list_any (λ (l : Held). l.number == n && test l) held) ns
+    ∙ ap (λ b. list_any (λ n. h.number == n) ns && b) (own_test held test up k d lt)
+    ∙ only_at_path (list_any (λ n. h.number == n) ns) (test h) (λ e. all k d lt (at h e))
+
+-- those of a form
 pub have_form : (f : Query) (ns : List ℕ) (held : List Held) → AllPairs (λ (l m : Held). l.number < m.number) held
     → All (λ (h : Held). path_eq h.query.path f.path ≡ true → list_any (λ n. h.number == n) ns ≡ true) held
     → HaveForm f (filter (λ n. list_any (λ (l : Held). l.number == n && query_eq (form l.query) f) held) ns) held
-have_form f ns held up all k d lt =
-    let h : Held = get_or held k d in
-    any_kept h.number (λ n. list_any (λ (l : Held). l.number == n && query_eq (form l.query) f) held) ns
-    ∙ ap (λ b. list_any (λ n. h.number == n) ns && b) (own_form held f up k d lt)
-    ∙ only_at_path (list_any (λ n. h.number == n) ns) (query_eq (form h.query) f) (λ e. all k d lt (form_path h.query f e))
+have_form f ns held up all = have_those (λ (h : Held). query_eq (form h.query) f) f.path ns held up all (λ h. form_path h.query f)
+
+-- and those that a range of the path supplies
+pub have_supplied : (f : Query) (ns : List ℕ) (held : List Held) → AllPairs (λ (l m : Held). l.number < m.number) held
+    → All (λ (h : Held). path_eq h.query.path f.path ≡ true → list_any (λ n. h.number == n) ns ≡ true) held
+    → HaveSupplied f (filter (λ n. list_any (λ (l : Held). l.number == n && is_supplied_at f l.query) held) ns) held
+have_supplied f ns held up all =
+    have_those (λ (h : Held). is_supplied_at f h.query) f.path ns held up all (λ h. both_first (path_eq h.query.path f.path) (does_supply f h.query))
 
 -- ---- what is told of those that end
 

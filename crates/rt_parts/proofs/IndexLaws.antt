@@ -115,12 +115,12 @@ form_path q f e = subst (λ (g : Query). path_eq q.path g.path ≡ true) ((query
       | false ↦ path_eq-same q.path
     ]
 
--- of the listeners of one's number one has the form, if it has
-pub own_form : (held : List Held) (f : Query) → AllPairs (λ (l m : Held). l.number < m.number) held
-    → All (λ h. list_any (λ (l : Held). l.number == h.number && query_eq (form l.query) f) held ≡ query_eq (form h.query) f) held
-own_form held f up k d lt =
+-- of the listeners of one's number one passes, if it does
+pub own_test : (held : List Held) (test : Held → Bool) → AllPairs (λ (l m : Held). l.number < m.number) held
+    → All (λ h. list_any (λ (l : Held). l.number == h.number && test l) held ≡ test h) held
+own_test held test up k d lt =
     let h : Held = get_or held k d in
-    any_found (λ (l : Held). l.number) (λ (l : Held). query_eq (form l.query) f) held h.number h up
+    any_found (λ (l : Held). l.number) test held h.number h up
     (found_at (λ (l : Held). l.number == h.number) held k d (stands (λ (l : Held). l.number) held k h.number d up lt refl))
 
 pub only_at_path : (a b : Bool) → (b ≡ true → a ≡ true) → (a && b) ≡ b
@@ -132,7 +132,7 @@ pub form_agree : (held : List Held) (f : Query) → AllPairs (λ (l m : Held). l
     → All (λ h. not (path_eq (placed h).path f.path && list_any (λ (l : Held). l.number == (placed h).number && query_eq (form l.query) f) held) ≡ not (query_eq (form h.query) f)) held
 form_agree held f up k d lt =
     let h : Held = get_or held k d in
-    ap not (ap (λ b. path_eq h.query.path f.path && b) (own_form held f up k d lt) ∙ only_at_path (path_eq h.query.path f.path) (query_eq (form h.query) f) (form_path h.query f))
+    ap not (ap (λ b. path_eq h.query.path f.path && b) (own_test held (λ (l : Held). query_eq (form l.query) f) up k d lt) ∙ only_at_path (path_eq h.query.path f.path) (query_eq (form h.query) f) (form_path h.query f))
 
 -- ---- what is known of the listeners
 

@@ -6,14 +6,14 @@ use Rattle.std.proofs.Math.ListN.{get_or-map}
 use Rattle.std.proofs.lemmas.List.{length-map}
 use Rattle.std.specs.Option.{option_to_list}
 use Rattle.rt_tree.specs.Assignments.{Assignment}
+use Rattle.rt_query.specs.Queries.{Query}
 use Rattle.rt_writes.specs.Writes.{Write}
 use Rattle.rt_cache.specs.Brought.{Brought}
 use Rattle.rt_view.specs.Views.{View}
-use Rattle.rt_world.specs.Met.{all_told, renewed_met, told_met}
 use Rattle.rt_world.specs.World.{Listener}
 use Rattle.rt_parts.specs.declared.held.Held.{Held}
-use Rattle.rt_parts.specs.inside.HeldView.{listener_of, listeners_of, pair_of, refreshed, views_of}
-use Rattle.rt_parts.specs.Refreshed.{view_met}
+use Rattle.rt_parts.specs.inside.HeldView.{listener_of, listeners_of, pair_of, refreshed_heard, views_of}
+use Rattle.rt_parts.specs.Refreshed.{renewed_heard, view_heard}
 
 -- the element at i is changed
 pub step_set : {X Y : Type 0} (g : X → Y) (f : Y → Y) (ys : List Y) (xs : List X) (i : ℕ) (d new : X)
@@ -68,20 +68,6 @@ cons_append : {Z : Type 0} (o : Option Z) (xs ys : List Z) → cons_option o (xs
 cons_append (Some z) xs ys = refl
 cons_append None xs ys = refl
 
--- and what is gathered of it
-pub step_gather : {X Y Z : Type 0} (g : X → Y) (f : Y → Y) (t : Y → Option Z) (ys : List Y) (xs : List X) (i : ℕ) (d : X)
-    → map g xs ≡ map f (take i ys) ++ drop i ys → i < length xs
-    → filter_map t (take (suc i) ys) ≡ filter_map t (take i ys) ++ option_to_list (t (g (get_or xs i d)))
-step_gather g f t ys [] i d e lt = absurd (omega arith)
-step_gather g f t [] (x ∷ xs) zero d e lt = cc
-step_gather g f t (y ∷ ys) (x ∷ xs) zero d e lt =
-    let head : y ≡ g x = cc in
-    one_more (t y) ∙ ap (λ z. option_to_list (t z)) head
-step_gather g f t [] (x ∷ xs) (suc i) d e lt = cc
-step_gather g f t (y ∷ ys) (x ∷ xs) (suc i) d e lt =
-    let tail : map g xs ≡ map f (take i ys) ++ drop i ys = cc in
-    ap (cons_option (t y)) (step_gather g f t ys xs i d tail (omega arith)) ∙ cons_append (t y) (filter_map t (take i ys)) (option_to_list (t (g (get_or xs i d))))
-
 -- what holds of each element holds of them all after a change
 pub all_set : {X : Type 0} (P : X → Type 0) (xs : List X) (i : ℕ) (v : X) → ((k : ℕ) (d : X) → k < length xs → P (get_or xs k d)) → P v
     → (k : ℕ) (d : X) → k < length (set xs i v) → P (get_or (set xs i v) k d)
@@ -114,39 +100,25 @@ pub firsts : (ls : List Held) → listeners_of ls ≡ map (λ (p : Listener × O
 firsts [] = refl
 firsts (l ∷ ls) = ap (λ z. listener_of l ∷ z) (firsts ls)
 
-module _ (entries : List Assignment) (b : Brought) (writes : List Write) where
-  some_firsts : (i : ℕ) (old : List Held) → map (λ (p : Listener × Option View). p.0) (map (refreshed entries b writes) (take i (map pair_of old)) ++ drop i (map pair_of old))
-      ≡ map (renewed_met entries b writes) (take i (listeners_of old)) ++ drop i (listeners_of old)
-  some_firsts zero old = sym (firsts old)
-  some_firsts (suc i) [] = refl
-  some_firsts (suc i) (l ∷ old) = ap (λ z. renewed_met entries b writes (listener_of l) ∷ z) (some_firsts i old)
-
-  -- the notes of one more listener, where pairs are refreshed in their place
-  pub notes_more : (old ls : List Held) (i : ℕ) (d : Held)
-      → map pair_of ls ≡ map (refreshed entries b writes) (take i (map pair_of old)) ++ drop i (map pair_of old) → i < length ls
-      → all_told entries b writes (take (suc i) (listeners_of old)) ≡ all_told entries b writes (take i (listeners_of old)) ++ option_to_list (told_met entries b writes (listener_of (get_or ls i d)))
-  notes_more old ls i d e lt =
-      step_gather listener_of (renewed_met entries b writes) (told_met entries b writes) (listeners_of old) ls i d
-      (firsts ls ∙ ap (map (λ (p : Listener × Option View). p.0)) e ∙ some_firsts i old) lt
-
+module _ (range : Option Query) (entries : List Assignment) (b : Brought) (writes : List Write) where
   -- all listeners, and all views
-  pub all_listeners : (old ls : List Held) → map pair_of ls ≡ map (refreshed entries b writes) (map pair_of old) → listeners_of ls ≡ map (renewed_met entries b writes) (listeners_of old)
+  pub all_listeners : (old ls : List Held) → map pair_of ls ≡ map (refreshed_heard range entries b writes) (map pair_of old) → listeners_of ls ≡ map (renewed_heard range entries b writes) (listeners_of old)
   all_listeners old ls e = firsts ls ∙ ap (map (λ (p : Listener × Option View). p.0)) e ∙ at old
     where
-      at : (old : List Held) → map (λ (p : Listener × Option View). p.0) (map (refreshed entries b writes) (map pair_of old)) ≡ map (renewed_met entries b writes) (listeners_of old)
+      at : (old : List Held) → map (λ (p : Listener × Option View). p.0) (map (refreshed_heard range entries b writes) (map pair_of old)) ≡ map (renewed_heard range entries b writes) (listeners_of old)
       at [] = refl
-      at (l ∷ old) = ap (λ z. renewed_met entries b writes (listener_of l) ∷ z) (at old)
+      at (l ∷ old) = ap (λ z. renewed_heard range entries b writes (listener_of l) ∷ z) (at old)
 
-  pub all_views : (old ls : List Held) → map pair_of ls ≡ map (refreshed entries b writes) (map pair_of old) → views_of ls ≡ map (view_met entries b writes) (zip (listeners_of old) (views_of old))
+  pub all_views : (old ls : List Held) → map pair_of ls ≡ map (refreshed_heard range entries b writes) (map pair_of old) → views_of ls ≡ map (view_heard range entries b writes) (zip (listeners_of old) (views_of old))
   all_views old ls e = seconds ls ∙ ap (map (λ (p : Listener × Option View). p.1)) e ∙ at old
     where
       seconds : (ls : List Held) → views_of ls ≡ map (λ (p : Listener × Option View). p.1) (map pair_of ls)
       seconds [] = refl
       seconds (l ∷ ls) = ap (λ z. l.view ∷ z) (seconds ls)
 
-      at : (old : List Held) → map (λ (p : Listener × Option View). p.1) (map (refreshed entries b writes) (map pair_of old)) ≡ map (view_met entries b writes) (zip (listeners_of old) (views_of old))
+      at : (old : List Held) → map (λ (p : Listener × Option View). p.1) (map (refreshed_heard range entries b writes) (map pair_of old)) ≡ map (view_heard range entries b writes) (zip (listeners_of old) (views_of old))
       at [] = refl
-      at (l ∷ old) = ap (λ z. view_met entries b writes (pair_of l) ∷ z) (at old)
+      at (l ∷ old) = ap (λ z. view_heard range entries b writes (pair_of l) ∷ z) (at old)
 
 -- listeners with their views
 pub zip_pairs : (ls : List Held) → zip (listeners_of ls) (views_of ls) ≡ map pair_of ls

@@ -21,7 +21,9 @@ use Rattle.rt_world.specs.Met.{do_meet}
 use Rattle.rt_world.specs.Touched.{named_by}
 use Rattle.rt_parts.specs.declared.held.Held.{Held}
 use Rattle.rt_parts.specs.declared.places.Place.{Place}
-use Rattle.rt_parts.specs.inside.Pairs.{AreUp, HasOwn, HasPairs, HavePairs, KeepsPairs, met_cmp, named_at}
+use Rattle.rt_query.specs.Queries.{Query}
+use Rattle.rt_parts.specs.inside.HeldView.{HaveSupplied}
+use Rattle.rt_parts.specs.inside.Pairs.{AreHanded, AreUp, HasOwn, HasPairs, HaveAll, HavePairs, KeepsPairs, met_cmp, named_at}
 use Rattle.rt_parts.specs.inside.Placed.{IsIndex, placed}
 use Rattle.rt_parts.proofs.PlaceLaws.{at_not_before, found_in, not_behind_same}
 use Rattle.rt_parts.proofs.SameLaws.{same_known}
@@ -137,6 +139,42 @@ pairs_more places old new entries i p lt at kept one all k d in_places j a withi
           (one k d in_places (ap (λ q. do_overlap q x.path) (sym (at a)) ∙ ap (λ n. do_overlap (get_or entries n a).0 x.path) same ∙ meets))
     ] refl
 
+-- ---- each number with each of so many entries
+
+pub all_none : (numbers : List ℕ) (pairs : List (ℕ × ℕ)) → HaveAll 0 numbers pairs
+all_none numbers pairs n i within e = absurd (omega (arith, within))
+
+pub all_more : (numbers : List ℕ) (old new : List (ℕ × ℕ)) (at : ℕ) → new ≡ old ++ map (λ (n : ℕ). (n, at)) numbers → HaveAll at numbers old → HaveAll (at + 1) numbers new
+all_more numbers old new at is all n i within e =
+    ap (list_any (λ (o : ℕ × ℕ). n == o.0 && i == o.1)) is
+    ∙ elim (nat_lt i at) as (λ b. nat_lt i at ≡ b → list_any (λ (o : ℕ × ℕ). n == o.0 && i == o.1) (old ++ map (λ (m : ℕ). (m, at)) numbers) ≡ true) [
+      | true ↦ λ f. keeps_pairs old (map (λ (m : ℕ). (m, at)) numbers) (λ (o : ℕ × ℕ). n == o.0 && i == o.1) (all n i (ltb-true i at f) e)
+      | false ↦ λ f.
+          let ge : at ≤ i = ltb-false i at f in
+          let same : at ≡ i = omega (arith, ge, within) in
+          subst (λ j. list_any (λ (o : ℕ × ℕ). n == o.0 && j == o.1) (old ++ map (λ (m : ℕ). (m, at)) numbers) ≡ true) same (paired old numbers n at e)
+    ] refl
+
+-- and no other number
+abbrev pub HaveOnly : List ℕ → List (ℕ × ℕ) → Type 0
+HaveOnly numbers pairs = (n : ℕ) → list_any (λ (o : ℕ × ℕ). n == o.0) pairs ≡ true → list_any (λ m. n == m) numbers ≡ true
+
+pub only_none : (numbers : List ℕ) (pairs : List (ℕ × ℕ)) → pairs ≡ [] → HaveOnly numbers pairs
+only_none numbers pairs none n e = absurd (true≢false (sym (sym (ap (list_any (λ (o : ℕ × ℕ). n == o.0)) none) ∙ e)))
+
+pub only_more : (numbers : List ℕ) (old new : List (ℕ × ℕ)) (at : ℕ) → new ≡ old ++ map (λ (n : ℕ). (n, at)) numbers → HaveOnly numbers old → HaveOnly numbers new
+only_more numbers old new at is only n e =
+    either (list_any (λ (o : ℕ × ℕ). n == o.0) old) (only n)
+    (sym (ap (list_any (λ (o : ℕ × ℕ). n == o.0)) is ∙ list_any-append (λ (o : ℕ × ℕ). n == o.0) old (map (λ (m : ℕ). (m, at)) numbers) ∙ ap (λ b. list_any (λ (o : ℕ × ℕ). n == o.0) old || b) (of_numbers numbers)) ∙ e)
+  where
+    of_numbers : (ns : List ℕ) → list_any (λ (o : ℕ × ℕ). n == o.0) (map (λ (m : ℕ). (m, at)) ns) ≡ list_any (λ m. n == m) ns
+    of_numbers [] = refl
+    of_numbers (m ∷ ns) = ap (λ b. (n == m) || b) (of_numbers ns)
+
+    either : (a : Bool) → (a ≡ true → list_any (λ m. n == m) numbers ≡ true) → (a || list_any (λ m. n == m) numbers) ≡ true → list_any (λ m. n == m) numbers ≡ true
+    either true f g = f refl
+    either false f g = g
+
 -- ---- from places to listeners
 
 pub have_pairs : (entries : List Assignment) (pairs : List (ℕ × ℕ)) (held : List Held) (places : List Place) → IsIndex held places → HavePairs entries pairs places
@@ -152,6 +190,24 @@ met_number entries pairs number path has e =
     let w = Any-from_list_any (λ (a : Assignment). do_overlap a.0 path) entries e in
     any_more (λ (o : ℕ × ℕ). number == o.0 && w.0 == o.1) (λ (o : ℕ × ℕ). number == o.0) (λ o f. and_first (number == o.0) (w.0 == o.1) f) pairs
     (has w.0 w.1 w.2 (ap (λ (a : Assignment). do_overlap a.0 path) w.3 ∙ w.4))
+
+-- where all entries reach each listener, those that meet it are handed to it
+pub handed_met : (entries : List Assignment) (pairs : List (ℕ × ℕ)) (held : List Held) (places : List Place) → IsIndex held places → AreUp pairs → HavePairs entries pairs places
+    → AreHanded None entries pairs held
+handed_met entries pairs held places is up all = record {
+  up = up;
+  all = λ k d lt h. have_pairs entries pairs held places is all k d lt;
+  only = λ k d lt e. refl;
+}
+
+-- where they are pushed on a range's listen alone, those that it supplies are handed all
+pub handed_supplied : (range : Query) (entries : List Assignment) (count : ℕ) (numbers : List ℕ) (pairs : List (ℕ × ℕ)) (held : List Held) → count ≡ length entries
+    → HaveSupplied range numbers held → AreUp pairs → HaveAll count numbers pairs → HaveOnly numbers pairs → AreHanded (Some range) entries pairs held
+handed_supplied range entries count numbers pairs held long supplied up all only = record {
+  up = up;
+  all = λ k d lt h i a within e. all (get_or held k d).number i (omega (arith, within, long)) (supplied k d lt ∙ h);
+  only = λ k d lt e. sym (supplied k d lt) ∙ only (get_or held k d).number e;
+}
 
 -- ---- a listener's own entries
 

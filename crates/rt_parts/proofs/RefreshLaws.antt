@@ -1,27 +1,31 @@
 -- Listeners that are refreshed one after another, by their numbers.
-use Rattle.std.proofs.Common.{◌≡◌, ℕ, zero, suc, ◌+◌, ◌<◌, ◌≤◌, Bool, true, false, cond, ◌||◌, List, [], ◌∷◌, ◌++◌, length, get_or, drop, map, refl, sym, ap, subst, ◌∙◌, arith, append_assoc, Option, Some, None}
+use Rattle.std.proofs.Common.{◌≡◌, ℕ, zero, suc, ◌+◌, ◌<◌, ◌≤◌, Bool, true, false, cond, ◌||◌, ◌&&◌, List, [], ◌∷◌, ◌++◌, length, get_or, drop, map, refl, sym, ap, subst, ◌∙◌, arith, append_assoc, Option, Some, None}
+use mathlib.Core.Bool.{true≢false}
 use Rattle.std.specs.Prelude.{◌==◌}
 use Rattle.std.specs.List.{All, AllPairs, cons_option, filter_map, find, list_any, position}
-use Rattle.std.proofs.lemmas.List.Elements.{All-cons}
+use Rattle.std.proofs.lemmas.List.Elements.{All-cons, All-head, All-tail}
 use Rattle.std.proofs.lemmas.List.{drop_more, get_or-drop, length-drop}
 use Rattle.rt_tree.specs.Assignments.{Assignment}
+use Rattle.rt_query.specs.Queries.{Query}
 use Rattle.rt_writes.specs.Writes.{Write}
 use Rattle.rt_cache.specs.Brought.{Brought}
 use Rattle.rt_view.specs.Views.{View}
 use Rattle.rt_cover.specs.laws.Pairs.{AllPairs-map}
 use Rattle.rt_world.specs.declared.report.Note.{Note}
 use Rattle.rt_world.specs.After.{renewed}
-use Rattle.rt_world.specs.Met.{all_told, do_meet, told, told_met}
+use Rattle.rt_world.specs.Met.{do_meet, told, told_met}
 use Rattle.rt_world.specs.Views.{is_known, view_of}
 use Rattle.rt_world.specs.World.{Listener}
 use Rattle.rt_writes.specs.laws.Places.{filter_none_found}
 use Rattle.rt_parts.specs.declared.held.Held.{Held}
-use Rattle.rt_parts.specs.inside.HeldView.{listener_of, listeners_of, pair_of, refreshed, refreshed_at, told_at}
+use Rattle.rt_parts.specs.inside.HeldView.{counted_of, listener_of, listeners_of, pair_of, refreshed, refreshed_at, refreshed_heard, told_at}
 use Rattle.rt_parts.specs.declared.places.Place.{Place}
-use Rattle.rt_parts.specs.inside.Pairs.{HasPairs, IsDue}
+use Rattle.rt_parts.specs.inside.Pairs.{AreHanded, HasPairs, IsDue}
 use Rattle.rt_parts.specs.inside.Placed.{placed}
-use Rattle.rt_parts.specs.Refreshed.{view_after}
+use Rattle.rt_parts.specs.Listeners.{count_if}
+use Rattle.rt_parts.specs.Refreshed.{FollowsNamed, all_told_heard, hears, view_after}
 use Rattle.rt_parts.proofs.Numbered as by
+use Rattle.rt_parts.proofs.PairLaws.{met_number}
 
 -- a listener with its view
 abbrev pub Pair : Type 0
@@ -46,6 +50,11 @@ later numbers i n within at rise k d lt =
     any_default [] i a c l = absurd (omega arith)
     any_default (x ∷ xs) zero a c l = refl
     any_default (x ∷ xs) (suc i) a c l = any_default xs i a c (omega arith)
+
+-- a listener has one of the numbers where it hears of the entries and one meets it, and only where it hears of them
+pub record IsHeard (entries : List Assignment) (range : Option Query) (numbers : List ℕ) (l : Held) : Type 0 where
+  pub only : list_any (λ n. l.number == n) numbers ≡ true → hears range l.query ≡ true
+  pub all : hears range l.query ≡ true → do_meet entries l.query.path ≡ true → list_any (λ n. l.number == n) numbers ≡ true
 
 module _ (entries : List Assignment) (b : Brought) (writes : List Write) where
   abbrev pub told_of : Pair → Option Note
@@ -120,34 +129,96 @@ module _ (entries : List Assignment) (b : Brought) (writes : List Write) where
   abbrev pub met : Pair → Bool
   met p = do_meet entries p.0.query.path
 
-  abbrev pub HaveMet : List ℕ → List Held → Type 0
-  HaveMet numbers ls = All (λ (l : Held). do_meet entries l.query.path ≡ true → list_any (λ n. l.number == n) numbers ≡ true) ls
+  -- what holds of listeners holds of them with their views
+  pub pairs_from : (P : Pair → Type 0) (ls : List Held) → All (λ (l : Held). P (pair_of l)) ls → All P (map pair_of ls)
+  pairs_from P [] h = λ k d lt. absurd (omega arith)
+  pairs_from P (l ∷ ls) h = All-cons P (pair_of l) (map pair_of ls) (h 0 l (omega arith)) (pairs_from P ls (λ k d lt. h (suc k) d (omega arith)))
 
-  pub met_pairs : (numbers : List ℕ) (ls : List Held) → HaveMet numbers ls → All (λ (p : Pair). met p ≡ true → list_any (λ n. p.0.number == n) numbers ≡ true) (map pair_of ls)
-  met_pairs numbers [] h = λ k d lt. absurd (omega arith)
-  met_pairs numbers (l ∷ ls) h = All-cons (λ (p : Pair). met p ≡ true → list_any (λ n. p.0.number == n) numbers ≡ true) (pair_of l) (map pair_of ls) (h 0 l (omega arith)) (met_pairs numbers ls (λ k d lt. h (suc k) d (omega arith)))
+  -- ---- the listeners that entries are handed to
 
-  -- the entries that meet listeners, with their views as without
-  pub own_pairs : (pairs : List (ℕ × ℕ)) (ls : List Held) → All (λ (l : Held). HasPairs entries pairs l.number l.query.path) ls → All (λ (p : Pair). HasPairs entries pairs p.0.number p.0.query.path) (map pair_of ls)
-  own_pairs pairs [] h = λ k d lt. absurd (omega arith)
-  own_pairs pairs (l ∷ ls) h = All-cons (λ (p : Pair). HasPairs entries pairs p.0.number p.0.query.path) (pair_of l) (map pair_of ls) (h 0 l (omega arith)) (own_pairs pairs ls (λ k d lt. h (suc k) d (omega arith)))
+  module _ (range : Option Query) where
+    abbrev pub AreHeard : List ℕ → List Held → Type 0
+    AreHeard numbers ls = All (IsHeard entries range numbers) ls
 
-  pub unmet : (p : Pair) → met p ≡ false → refreshed entries b writes p ≡ p
-  unmet p e = λ i. (cond (e i) (renewed b writes p.0) p.0, cond (e i) (view_after entries b writes p.0.query p.1) p.1)
+    -- so it is where the numbers are those of the pairs
+    pub heard_by : (pairs lent : List (ℕ × ℕ)) (numbers given : List ℕ) (seen ls : List Held) → AreHanded range entries pairs seen → seen ≡ ls → lent ≡ pairs → given ≡ numbers
+        → ((p : ℕ → Bool) → list_any p numbers ≡ list_any (λ (o : ℕ × ℕ). p o.0) lent) → AreHeard given ls
+    heard_by pairs lent numbers given seen ls handed se le ge same k d lt =
+        let l : Held = get_or ls k d in
+        let all : AreHanded range entries pairs ls = subst (AreHanded range entries pairs) se handed in
+        let known : list_any (λ n. l.number == n) given ≡ list_any (λ (o : ℕ × ℕ). l.number == o.0) pairs =
+        ap (list_any (λ n. l.number == n)) ge ∙ same (λ n. l.number == n) ∙ ap (list_any (λ (o : ℕ × ℕ). l.number == o.0)) le in
+        record {
+          only = λ e. all.only k d lt (sym known ∙ e);
+          all = λ h e. known ∙ met_number entries pairs l.number l.query.path (all.all k d lt h) e;
+        }
 
-  untold : (p : Pair) → met p ≡ false → told_of p ≡ None
-  untold p e = ap (λ z. cond z (told b writes p.0) None) e
+    -- those that are handed entries are due
+    pub handed_due : (pairs : List (ℕ × ℕ)) (numbers : List ℕ) (ls : List Held) → AreHanded range entries pairs ls → AreHeard numbers ls → All (FollowsNamed entries b writes) (map pair_of ls)
+        → AreDue pairs numbers (map pair_of ls)
+    handed_due pairs numbers ls handed heard follow k d lt e = record {
+      follow = follow k d lt;
+      own = pairs_from (λ (p : Pair). list_any (λ n. p.0.number == n) numbers ≡ true → HasPairs entries pairs p.0.number p.0.query.path) ls (λ j g l t. handed.all j g l ((heard j g l).only t)) k d lt e;
+    }
 
-  -- where the numbers of all that are met are given, all are refreshed
-  pub left_all : (numbers : List ℕ) (ls : List Held) → HaveMet numbers ls → left_of numbers (map pair_of ls) ≡ map (refreshed entries b writes) (map pair_of ls)
-  left_all numbers ls h = by.changed_all number_of (refreshed entries b writes) told_of met numbers (map pair_of ls) unmet (met_pairs numbers ls h)
+    -- by whether it has one of the numbers, hears of the entries, and is met by one
+    by_tests : (has hear meet : Bool) → (has ≡ true → hear ≡ true) → (hear ≡ true → meet ≡ true → has ≡ true)
+        → (x y : Listener) (u v : Option View) → ◌≡◌ {A = Pair} (cond has (cond meet x y, cond meet u v) (y, v)) (cond hear (cond meet x y) y, cond hear (cond meet u v) v)
+    by_tests true true meet f g x y u v = refl
+    by_tests true false meet f g x y u v = absurd (true≢false (sym (f refl)))
+    by_tests false true true f g x y u v = absurd (true≢false (sym (g refl refl)))
+    by_tests false true false f g x y u v = refl
+    by_tests false false meet f g x y u v = refl
 
-  pub told_all : (numbers : List ℕ) (ls : List Held) → HaveMet numbers ls → told_left numbers (map pair_of ls) ≡ all_told entries b writes (listeners_of ls)
-  told_all numbers ls h = by.told_all number_of (refreshed entries b writes) told_of met numbers (map pair_of ls) untold (met_pairs numbers ls h) ∙ of_listeners ls
-    where
-      of_listeners : (xs : List Held) → filter_map told_of (map pair_of xs) ≡ all_told entries b writes (listeners_of xs)
-      of_listeners [] = refl
-      of_listeners (x ∷ xs) = ap (cons_option (told_met entries b writes (listener_of x))) (of_listeners xs)
+    note_by_tests : (has hear meet : Bool) → (has ≡ true → hear ≡ true) → (hear ≡ true → meet ≡ true → has ≡ true)
+        → (t : Option Note) → cond has (cond meet t None) None ≡ cond hear (cond meet t None) None
+    note_by_tests true true meet f g t = refl
+    note_by_tests true false meet f g t = absurd (true≢false (sym (f refl)))
+    note_by_tests false true true f g t = absurd (true≢false (sym (g refl refl)))
+    note_by_tests false true false f g t = refl
+    note_by_tests false false meet f g t = refl
+
+    count_by_tests : (has hear meet : Bool) → (has ≡ true → hear ≡ true) → (hear ≡ true → meet ≡ true → has ≡ true)
+        → (x y : Listener) (u v : Option View) (n : ℕ)
+        → ◌≡◌ {A = Pair × ℕ} (cond has ((cond meet x y, cond meet u v), count_if meet n (cond meet u v)) ((y, v), n))
+        ((cond hear (cond meet x y) y, cond hear (cond meet u v) v), count_if (hear && meet) n (cond hear (cond meet u v) v))
+    count_by_tests true true meet f g x y u v n = refl
+    count_by_tests true false meet f g x y u v n = absurd (true≢false (sym (f refl)))
+    count_by_tests false true true f g x y u v n = absurd (true≢false (sym (g refl refl)))
+    count_by_tests false true false f g x y u v n = refl
+    count_by_tests false false meet f g x y u v n = refl
+
+    -- so just those that hear of the entries are refreshed
+    pub left_heard : (numbers : List ℕ) (ls : List Held) → AreHeard numbers ls → left_of numbers (map pair_of ls) ≡ map (refreshed_heard range entries b writes) (map pair_of ls)
+    left_heard numbers [] h = refl
+    left_heard numbers (l ∷ ls) h =
+        let one : IsHeard entries range numbers l = All-head (IsHeard entries range numbers) l ls h in
+        let first = by_tests (list_any (λ n. l.number == n) numbers) (hears range l.query) (do_meet entries l.query.path) one.only one.all
+        (renewed b writes (listener_of l)) (listener_of l) (view_after entries b writes l.query l.view) l.view in
+        λ i. first i ∷ left_heard numbers ls (All-tail (IsHeard entries range numbers) l ls h) i
+
+    -- told
+    pub told_left_heard : (numbers : List ℕ) (ls : List Held) → AreHeard numbers ls → told_left numbers (map pair_of ls) ≡ all_told_heard range entries b writes (listeners_of ls)
+    told_left_heard numbers [] h = refl
+    told_left_heard numbers (l ∷ ls) h =
+        let one : IsHeard entries range numbers l = All-head (IsHeard entries range numbers) l ls h in
+        let first = note_by_tests (list_any (λ n. l.number == n) numbers) (hears range l.query) (do_meet entries l.query.path) one.only one.all (told b writes (listener_of l)) in
+        λ i. cons_option (first i) (told_left_heard numbers ls (All-tail (IsHeard entries range numbers) l ls h) i)
+
+    -- and counted
+    abbrev pub counted_heard : Pair × ℕ → Pair × ℕ
+    counted_heard t = (refreshed_heard range entries b writes t.0, count_if (hears range t.0.0.query && do_meet entries t.0.0.query.path) t.1 (refreshed_heard range entries b writes t.0).1)
+
+    abbrev pub counted_left : List ℕ → List (Pair × ℕ) → List (Pair × ℕ)
+    counted_left numbers ts = map (λ (t : Pair × ℕ). cond (list_any (λ n. t.0.0.number == n) numbers) (refreshed entries b writes t.0, count_if (met t.0) t.1 (refreshed entries b writes t.0).1) t) ts
+
+    pub counted_left_heard : (numbers : List ℕ) (ls : List Held) → AreHeard numbers ls → counted_left numbers (map counted_of ls) ≡ map counted_heard (map counted_of ls)
+    counted_left_heard numbers [] h = refl
+    counted_left_heard numbers (l ∷ ls) h =
+        let one : IsHeard entries range numbers l = All-head (IsHeard entries range numbers) l ls h in
+        let first = count_by_tests (list_any (λ n. l.number == n) numbers) (hears range l.query) (do_meet entries l.query.path) one.only one.all
+        (renewed b writes (listener_of l)) (listener_of l) (view_after entries b writes l.query l.view) l.view l.count in
+        λ i. first i ∷ counted_left_heard numbers ls (All-tail (IsHeard entries range numbers) l ls h) i
 
 -- numbers of listeners and of pairs rise alike
 pub pairs_up : (ls : List Held) → AllPairs (λ (l m : Held). l.number < m.number) ls → AllPairs (λ p q. number_of p < number_of q) (map pair_of ls)
@@ -188,16 +259,19 @@ module _ (entries : List Assignment) (b : Brought) (writes : List Write) where
   pub placed_with : (h : Held) (l : Listener) → listener_of h ≡ renewed b writes l → placed h ≡ record { path = l.query.path; number = l.number; seat = l.seat }
   placed_with h l e = ap stand e ∙ elim (l.is_primed || is_known b writes l.query) as (λ z. stand (cond z (record l { is_primed = true; view = Some (view_of b writes l.query) }) l) ≡ stand l) [ true ↦ refl | false ↦ refl ]
 
-  pub placed_same : (old new : List Held) → map pair_of new ≡ map (refreshed entries b writes) (map pair_of old) → map placed new ≡ map placed old
-  placed_same old new e = read new ∙ ap (map (λ (p : Pair). stand p.0)) e ∙ stay old
+  pub placed_left : (numbers : List ℕ) (old new : List Held) → map pair_of new ≡ left_of entries b writes numbers (map pair_of old) → map placed new ≡ map placed old
+  placed_left numbers old new e = read new ∙ ap (map (λ (p : Pair). stand p.0)) e ∙ stay old
     where
       read : (ls : List Held) → map placed ls ≡ map (λ (p : Pair). stand p.0) (map pair_of ls)
       read [] = refl
       read (l ∷ ls) = ap (λ z. placed l ∷ z) (read ls)
 
-      stay : (ls : List Held) → map (λ (p : Pair). stand p.0) (map (refreshed entries b writes) (map pair_of ls)) ≡ map placed ls
+      one : (p : Pair) → stand (cond (list_any (λ n. p.0.number == n) numbers) (refreshed entries b writes p) p).0 ≡ stand p.0
+      one p = elim (list_any (λ n. p.0.number == n) numbers) as (λ z. stand (cond z (refreshed entries b writes p) p).0 ≡ stand p.0) [ true ↦ stand_stays p | false ↦ refl ]
+
+      stay : (ls : List Held) → map (λ (p : Pair). stand p.0) (left_of entries b writes numbers (map pair_of ls)) ≡ map placed ls
       stay [] = refl
-      stay (l ∷ ls) = λ i. stand_stays (pair_of l) i ∷ stay ls i
+      stay (l ∷ ls) = λ i. one (pair_of l) i ∷ stay ls i
 
 pub placed_renewed : (b : Brought) (writes : List Write) (h : Held) (l : Listener) → listener_of h ≡ renewed b writes l → placed h ≡ record { path = l.query.path; number = l.number; seat = l.seat }
 placed_renewed b writes h l e = placed_with [] b writes h l e

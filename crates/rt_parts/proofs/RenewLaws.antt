@@ -5,10 +5,11 @@ use Rattle.std.specs.Prelude.{◌==◌}
 use Rattle.std.specs.List.{All, AllPairs, cons_option, dedup, dedup_from, filter_map, list_any, zip}
 use Rattle.std.proofs.lemmas.List.Elements.{All-cons}
 use Rattle.std.proofs.lemmas.List.Folds.{Any-from_list_any, list_any-append, list_any_at, list_any_more}
-use Rattle.rt_tree.specs.TreeEq.{both_first, both_second}
+use Rattle.rt_tree.specs.TreeEq.{both, both_first, both_second}
 use Rattle.rt_tree.specs.PathTree.{Path, path_eq, path_eq-is, path_eq-same, path_eq-symm}
 use Rattle.rt_query.specs.Queries.{Query, is_filtered}
 use Rattle.rt_query.specs.QueryEq.{query_eq}
+use Rattle.rt_query.specs.Supply.{does_supply}
 use Rattle.rt_query.specs.laws.QueryEq.{query_eq_tells}
 use Rattle.rt_writes.specs.Writes.{Write}
 use Rattle.rt_cache.specs.Brought.{Brought}
@@ -20,9 +21,10 @@ use Rattle.rt_world.specs.Views.{is_known, view_of as view_at}
 use Rattle.rt_world.specs.World.{Listener}
 use Rattle.rt_parts.specs.declared.held.Held.{Held}
 use Rattle.rt_parts.specs.declared.places.Place.{Place}
-use Rattle.rt_parts.specs.inside.HeldView.{listener_of, listeners_of, pair_of, renewal_told_at, renewed_at, renewed_pair, views_of}
+use Rattle.rt_parts.specs.inside.HeldView.{HaveSupplied, listener_of, listeners_of, pair_of, renewal_told_at, renewed_at, renewed_pair, views_of}
 use Rattle.rt_parts.specs.inside.Placed.{HaveAt, HaveNumbers, Keeps, placed}
 use Rattle.rt_parts.specs.Listeners.{count_if}
+use Rattle.rt_parts.specs.Refreshed.{is_supplied_at}
 use Rattle.rt_parts.specs.Renewed.{all_told_of, count_of, renewed_of, told_of, view_anew, view_of}
 use Rattle.rt_parts.proofs.Numbered as by
 use Rattle.rt_parts.proofs.RefreshLaws.{drop_is, later, number_of, Pair}
@@ -372,3 +374,48 @@ all_of_path ls p numbers q all = at (path_eq q.path p) refl
     at false e =
         ap (λ b. is_filtered q && b && list_any (has_of ls q) numbers) e ∙ nothing (is_filtered q) (list_any (has_of ls q) numbers)
         ∙ sym (ap (λ b. is_filtered q && b && list_any (λ (l : Listener). query_eq l.query q) (listeners_of ls)) e ∙ nothing (is_filtered q) (list_any (λ (l : Listener). query_eq l.query q) (listeners_of ls)))
+
+-- those of the numbers of a range bring the queries that it supplies
+pub supplied_of_path : (ls : List Held) (range : Query) (numbers : List ℕ) (q : Query) → HaveSupplied range numbers ls
+    → (is_filtered q && path_eq q.path range.path && list_any (has_of ls q) numbers)
+    ≡ ((is_filtered q && path_eq q.path range.path && list_any (λ (l : Listener). query_eq l.query q) (listeners_of ls)) && does_supply range q)
+supplied_of_path ls range numbers q all = at (is_filtered q) (path_eq q.path range.path) refl
+  where
+    heard : Bool
+    heard = list_any (λ (l : Listener). query_eq l.query q) (listeners_of ls)
+
+    read : (xs : List Held) → list_any (λ (l : Listener). query_eq l.query q) (listeners_of xs) ≡ list_any (λ (l : Held). query_eq l.query q) xs
+    read [] = refl
+    read (x ∷ xs) = ap (λ b. query_eq x.query q || b) (read xs)
+
+    -- a listener of the query, and whether its number is one of these
+    tested : (k : ℕ) (d : Held) → k < length ls → query_eq (get_or ls k d).query q ≡ true → list_any (λ n. (get_or ls k d).number == n) numbers ≡ is_supplied_at range q
+    tested k d lt e = all k d lt ∙ ap (is_supplied_at range) ((query_eq_tells (get_or ls k d).query q).0 e)
+
+    there : list_any (has_of ls q) numbers ≡ true → (heard && is_supplied_at range q) ≡ true
+    there e =
+        let n = Any-from_list_any (has_of ls q) numbers e in
+        let l = Any-from_list_any (λ (x : Held). x.number == n.1 && query_eq x.query q) ls n.4 in
+        let own : query_eq (get_or ls l.0 l.1).query q ≡ true = ap (λ (x : Held). query_eq x.query q) l.3 ∙ both_second ((l.1).number == n.1) (query_eq (l.1).query q) l.4 in
+        let number : list_any (λ m. (get_or ls l.0 l.1).number == m) numbers ≡ true =
+        list_any_at (λ m. (get_or ls l.0 l.1).number == m) numbers n.0 n.1 n.2
+        ((λ i. (l.3 i).number == n.3 i) ∙ both_first ((l.1).number == n.1) (query_eq (l.1).query q) l.4) in
+        both heard (is_supplied_at range q) (read ls ∙ list_any_at (λ (x : Held). query_eq x.query q) ls l.0 l.1 l.2 own) (sym (tested l.0 l.1 l.2 own) ∙ number)
+
+    back : (heard && is_supplied_at range q) ≡ true → list_any (has_of ls q) numbers ≡ true
+    back e =
+        let l = Any-from_list_any (λ (x : Held). query_eq x.query q) ls (sym (read ls) ∙ both_first heard (is_supplied_at range q) e) in
+        let own : query_eq (get_or ls l.0 l.1).query q ≡ true = ap (λ (x : Held). query_eq x.query q) l.3 ∙ l.4 in
+        let n = Any-from_list_any (λ m. (get_or ls l.0 l.1).number == m) numbers (tested l.0 l.1 l.2 own ∙ both_second heard (is_supplied_at range q) e) in
+        list_any_at (has_of ls q) numbers n.0 n.1 n.2 (ap (has_of ls q) n.3
+        ∙ list_any_at (λ (x : Held). x.number == n.1 && query_eq x.query q) ls l.0 l.1 l.2 (both ((get_or ls l.0 l.1).number == n.1) (query_eq (get_or ls l.0 l.1).query q) n.4 own))
+
+    same : (a b : Bool) → (a ≡ true → b ≡ true) → (b ≡ true → a ≡ true) → a ≡ b
+    same true b f g = sym (f refl)
+    same false true f g = g refl
+    same false false f g = refl
+
+    at : (f p : Bool) → path_eq q.path range.path ≡ p → (f && p && list_any (has_of ls q) numbers) ≡ ((f && p && heard) && does_supply range q)
+    at true true e = same (list_any (has_of ls q) numbers) (heard && is_supplied_at range q) there back ∙ ap (λ b. heard && (b && does_supply range q)) e
+    at true false e = refl
+    at false p e = refl

@@ -11,13 +11,14 @@
 //! requests.add(1, seat, Asked::Now(action))?;        // pending, and to be sent
 //! let settled = requests.settle(1)?;                 // whose it was, and the entries that show no more
 //! let pending = requests.pending();
-//! listeners.refresh(settled.entries.as_slice(), &brought, pending, &mut notes)?;
+//! listeners.refresh(None, settled.entries.as_slice(), &brought, pending, &mut notes)?;
 //! ```
 #![tactic(auto)]
 
 mod adding;
 mod ending;
 mod error;
+mod handing;
 mod held;
 mod known;
 mod listeners;

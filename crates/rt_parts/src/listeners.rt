@@ -2,24 +2,26 @@
 ghost use Rattle.std.specs.Prelude.{◌≡◌, ◌≢◌, ◌==◌, ◌↔◌, ◌&&◌, ◌<◌, ◌++◌, ◌∷◌, [], not, map};
 ghost use Rattle.std.specs.Prelude.{ℕ, length, IsTrue, IsOk, IfOk, OnOk, OnErr, None, Err};
 ghost use Rattle.std.specs.List.{All, filter, find, list_any, position, zip};
-ghost use Rattle.std.specs.Option.{option_to_list};
+ghost use Rattle.std.specs.Option.{option_copied, option_to_list};
 ghost use Rattle.rt_query.specs.Queries.{Query};
 ghost use Rattle.rt_query.specs.QueryEq.{query_eq};
-ghost use Rattle.rt_query.specs.Supply.{form};
+ghost use Rattle.rt_query.specs.Supply.{does_supply, form};
 ghost use Rattle.rt_cache.specs.Recover.{is_among};
 ghost use Rattle.rt_world.specs.Answers.{view_before};
-ghost use Rattle.rt_world.specs.Met.{all_told, renewed_met, told};
+ghost use Rattle.rt_world.specs.Met.{told};
 ghost use Rattle.rt_world.specs.After.{renewed};
 ghost use Rattle.rt_parts.specs.Listeners.{cancelled_note, counts_left, first_view_of, new_listener};
 ghost use Rattle.rt_parts.specs.Listeners.{no_listeners, views_left};
-ghost use Rattle.rt_parts.specs.Refreshed.{FollowNamed, count_met, view_met};
+ghost use Rattle.rt_parts.specs.Refreshed.{FollowNamed, all_told_heard, count_heard, renewed_heard};
+ghost use Rattle.rt_parts.specs.Refreshed.{view_heard};
 ghost use Rattle.rt_parts.specs.Renewed.{all_told_of, count_of, is_listened_at, renewed_of, view_of};
 
 use crate::adding::first;
 use crate::ending::{end_listened, end_number, end_seat, numbers_of_form, tell_ends};
 use crate::error::ShownError;
+use crate::handing::{numbers_supplied, pairs_handed};
 use crate::held::{Held, is_seats, place_of};
-use crate::met::{numbers_in, pairs_met};
+use crate::met::numbers_in;
 use crate::places::{Place, insert_place, push_at};
 use crate::reading::{numbers_of, shown};
 use crate::renewing::{in_order, numbers_at, queries_of, renew_all};
@@ -107,11 +109,17 @@ impl Listeners {
     /// meets are found by halving, at its path, at each path above it, and below. Of each the entries
     /// that meet it are looked at, and no others.
     ///
+    /// `range` is the range on whose listen all of them are pushed, if they are pushed so. Then the
+    /// listeners of its path that it supplies hear of them, and no others do. Each listener of the path
+    /// is asked by one comparison of ranges, and those that don't hear of the entries keep their views
+    /// and their counts.
+    ///
     /// # Errors
     ///
     /// Want of memory. The listeners are gone then, and some seats may be told.
     pub fn refresh(
         &mut self,
+        range: Option<&Query>,
         entries: &[(Path, Tree)],
         brought: &Brought,
         pending: &Pending,
@@ -119,21 +127,23 @@ impl Listeners {
     ) -> Result<(), AllocError>
         requires follow { FollowNamed entries.now brought.now pending.now self.old }
         ensures listeners { OnOk result (self.new.listeners
-            ≡ map (renewed_met entries.now brought.now pending.now) self.old.listeners) }
+            ≡ map (renewed_heard (option_copied range.entry) entries.now brought.now pending.now)
+            self.old.listeners) }
         ensures views { OnOk result (self.new.views
-            ≡ map (view_met entries.now brought.now pending.now)
+            ≡ map (view_heard (option_copied range.entry) entries.now brought.now pending.now)
             (zip self.old.listeners self.old.views)) }
         ensures notes { OnOk result (notes.new.items ≡ notes.old.items
-            ++ all_told entries.now brought.now pending.now self.old.listeners) }
+            ++ all_told_heard (option_copied range.entry) entries.now brought.now pending.now
+            self.old.listeners) }
         ensures gives_up { OnErr result (self.new ≡ no_listeners) }
         ensures counts { OnOk result (self.new.counts
-            ≡ map (count_met entries.now brought.now pending.now)
+            ≡ map (count_heard (option_copied range.entry) entries.now brought.now pending.now)
             (zip (zip self.old.listeners self.old.views) self.old.counts)) }
     {
         let alloc = *self.held.allocator();
         let mut held = replace(&mut self.held, Vec::new(alloc));
         let places = replace(&mut self.places, Vec::new(alloc));
-        let pairs = pairs_met(alloc, &places, entries)?;
+        let pairs = pairs_handed(alloc, &held, &places, range, entries)?;
         let numbers = numbers_in(alloc, &pairs)?;
         refresh(
             held.as_mut_slice(),
@@ -301,6 +311,17 @@ impl Listeners {
         let mut numbers = Vec::new(alloc);
         push_at(&mut numbers, &self.places, path.keys())?;
         queries_of(alloc, &self.held, &numbers, path)
+    }
+
+    /// The filtered queries of the range's path that have listeners and that the range supplies, each
+    /// once. The listeners of the path are found by halving, and each of them is asked by one comparison
+    /// of ranges. An `Err` is want of memory.
+    pub fn queries_supplied(&self, alloc: Global, range: &Query) -> Result<Vec<Query>, AllocError>
+        ensures { IfOk result (λ queries. (q : Query) → is_among queries.items q
+            ≡ (is_listened_at self.now.listeners range.now.path q && does_supply range.now q)) }
+    {
+        let numbers = numbers_supplied(alloc, &self.held, &self.places, range)?;
+        queries_of(alloc, &self.held, &numbers, range.path())
     }
 
     /// What the view of the listener of that number shows; `None` where it has none yet. The trees

@@ -5,7 +5,7 @@ ghost use Rattle.std.specs.List.{All, AllPairs, list_any};
 ghost use Rattle.std.specs.List.Sorted.{IsPartitionPoint};
 ghost use Rattle.std.specs.Ordering.{is_le, is_lt, nat_cmp};
 ghost use Rattle.rt_tree.specs.Assignments.{do_overlap};
-ghost use Rattle.rt_parts.specs.inside.Pairs.{AreUp, HavePairs, KeepsPairs, met_cmp};
+ghost use Rattle.rt_parts.specs.inside.Pairs.{AreUp, HaveAll, HavePairs, KeepsPairs, met_cmp};
 ghost use Rattle.rt_parts.specs.inside.Placed.{AreInOrder};
 
 use crate::places::{Place, push_met, sort_once};
@@ -66,6 +66,25 @@ pub(crate) fn pairs_met(
     for at in 0..entries.len() {
         let entry = &entries[at];
         push_pairs(alloc, &mut pairs, places, &entry.0, at)?;
+    }
+    sort_pairs(&mut pairs);
+    Ok(pairs)
+}
+
+// The pairs of each of these numbers with each of so many entries, in order.
+pub(crate) fn pairs_with(
+    alloc: Global,
+    numbers: &[u64],
+    count: usize,
+) -> Result<Vec<(u64, usize)>, AllocError>
+    ensures up { IfOk result (λ pairs. AreUp pairs.items) }
+    ensures all { IfOk result (λ pairs. HaveAll count numbers.now pairs.items) }
+    ensures only { IfOk result (λ pairs. (n : ℕ) → list_any (λ o. n == o.0) pairs.items ≡ true
+        → list_any (λ m. n == m) numbers.now ≡ true) }
+{
+    let mut pairs = Vec::new(alloc);
+    for at in 0..count {
+        push_each(&mut pairs, numbers, at)?;
     }
     sort_pairs(&mut pairs);
     Ok(pairs)

@@ -7,13 +7,13 @@ ghost use Rattle.rt_world.specs.Views.{is_known};
 ghost use Rattle.rt_world.specs.After.{renewed};
 ghost use Rattle.rt_world.specs.Answers.{batch_note};
 ghost use Rattle.rt_parts.specs.Listeners.{count_if, count_with};
-ghost use Rattle.rt_parts.specs.inside.HeldView.{IsHeld, AreHeld, counted_of, listener_of, listeners_of};
-ghost use Rattle.rt_parts.specs.inside.HeldView.{pair_of, recounted, recounted_at, refreshed};
-ghost use Rattle.rt_parts.specs.inside.HeldView.{refreshed_at, told_at};
-ghost use Rattle.rt_parts.specs.inside.Pairs.{AreUp, HasOwn, HasPairs, IsDue};
+ghost use Rattle.rt_parts.specs.inside.HeldView.{IsHeld, AreHeld, counted_of, listener_of, pair_of};
+ghost use Rattle.rt_parts.specs.inside.HeldView.{recounted_among, recounted_at, refreshed};
+ghost use Rattle.rt_parts.specs.inside.HeldView.{refreshed_among, refreshed_at, told_among, told_at};
+ghost use Rattle.rt_parts.specs.inside.Pairs.{AreUp, HasOwn, IsDue};
 ghost use Rattle.rt_parts.specs.Renewed.{view_anew};
 ghost use Rattle.rt_parts.specs.Refreshed.{FollowsNamed, view_after};
-ghost use Rattle.rt_world.specs.Met.{all_told, do_meet, told, told_met};
+ghost use Rattle.rt_world.specs.Met.{do_meet, told, told_met};
 ghost use Rattle.rt_world.specs.Touched.{is_covered};
 
 use crate::held::{Held, is_primed, place_of, show, stays_object, touch};
@@ -233,9 +233,9 @@ fn refresh_number(
     }
 }
 
-// Touches or renews the views of those listeners, by number, that an entry meets: the numbers of all
-// of these are among those that are given, and the entries that meet them are told by the pairs. No
-// other listener is looked at, and of each no other entry.
+// Touches or renews the views of the listeners of these numbers, one after another, where an entry meets
+// their paths. The pairs tell which entries meet each of them. No other listener is looked at, and of each
+// no other entry.
 pub(crate) fn refresh(
     listeners: &mut [Held],
     numbers: &[u64],
@@ -246,21 +246,20 @@ pub(crate) fn refresh(
     notes: &mut Vec<Note>,
 ) -> Result<(), AllocError>
     requires held { AreHeld listeners.old }
-    requires follow { All (FollowsNamed entries.now brought.now pending.now)
-        (map pair_of listeners.old) }
     requires up { AreUp met.now }
-    requires own { All (λ p. HasPairs entries.now met.now p.0.number p.0.query.path)
-        (map pair_of listeners.old) }
     requires rise { AllPairs (λ m n. m < n) numbers.now }
-    requires numbers { All (λ l. do_meet entries.now l.query.path ≡ true
-        → list_any (λ n. l.number == n) numbers.now ≡ true) listeners.old }
+    requires due { All (λ p. list_any (λ n. p.0.number == n) numbers.now ≡ true
+        → IsDue entries.now brought.now pending.now met.now p) (map pair_of listeners.old) }
     ensures pairs { OnOk result (map pair_of listeners.new
-        ≡ map (refreshed entries.now brought.now pending.now) (map pair_of listeners.old)) }
+        ≡ map (refreshed_among numbers.now entries.now brought.now pending.now)
+        (map pair_of listeners.old)) }
     ensures counts { OnOk result (map counted_of listeners.new
-        ≡ map (recounted entries.now brought.now pending.now) (map counted_of listeners.old)) }
+        ≡ map (recounted_among numbers.now entries.now brought.now pending.now)
+        (map counted_of listeners.old)) }
     ensures held { OnOk result (AreHeld listeners.new) }
     ensures notes { OnOk result (notes.new.items ≡ notes.old.items
-        ++ all_told entries.now brought.now pending.now (listeners_of listeners.old)) }
+        ++ filter_map (told_among numbers.now entries.now brought.now pending.now)
+        (map pair_of listeners.old)) }
 {
     for number in numbers {
         refresh_number(listeners, *number, entries, met, brought, pending, notes)?;

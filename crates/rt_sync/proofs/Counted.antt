@@ -1,5 +1,5 @@
 -- How what is taken anew of listeners is counted, over each kind of step.
-use Rattle.std.proofs.Common.{◌≡◌, ℕ, ◌+◌, ◌<◌, ◌%◌, ◌^◌, Bool, true, false, cond, ◌||◌, inl, inr, List, [], ◌∷◌, ◌++◌, get_or, map, refl, sym, ap, subst, ◌∙◌, arith, eqb-true, Option, Some, None}
+use Rattle.std.proofs.Common.{◌≡◌, ℕ, ◌+◌, ◌<◌, ◌%◌, ◌^◌, Bool, true, false, cond, ◌&&◌, ◌||◌, inl, inr, List, [], ◌∷◌, ◌++◌, get_or, map, refl, sym, ap, subst, ◌∙◌, arith, eqb-true, Option, Some, None}
 use mathlib.Core.Bool.{true≢false}
 use Rattle.std.specs.Prelude.{◌==◌, is_some}
 use Rattle.std.specs.List.{All, cons_option, filter, filter_map, find, zip}
@@ -21,8 +21,8 @@ use Rattle.rt_world.specs.Covering.{change_by}
 use Rattle.rt_world.specs.Met.{do_meet, renewed_met}
 use Rattle.rt_world.specs.Sound.{Rises}
 use Rattle.rt_world.specs.Touched.{entries_by}
-use Rattle.rt_parts.specs.Listeners.{count_with, counts_left, first_view_of, own_count, views_left, views_where}
-use Rattle.rt_parts.specs.Refreshed.{count_met, is_touched, named_children, view_after, view_met}
+use Rattle.rt_parts.specs.Listeners.{count_if, count_with, counts_left, first_view_of, own_count, views_left, views_where}
+use Rattle.rt_parts.specs.Refreshed.{count_heard, count_met, hears, is_touched, named_children, view_after, view_heard, view_met}
 use Rattle.rt_parts.specs.Renewed.{count_of, renewed_of, view_anew, view_of}
 use Rattle.rt_sync.specs.Core.{Held}
 use Rattle.rt_sync.specs.Reads.{GoesOn, IsCounted, count_held, view_held}
@@ -309,6 +309,13 @@ module _ (b : Brought) (ws : List Write) where
           | false ↦ same_goes t.0.1 t.1
         ]
 
+    heard_goes : (range : Option Query) (t : Row) → GoesOn t.0.1 (view_heard range es b ws t.0) (Some t.1) (Some (count_heard range es b ws t))
+    heard_goes range t =
+        elim (hears range t.0.0.query) as (λ h. GoesOn t.0.1 (cond h (view_met es b ws t.0) t.0.1) (Some t.1) (Some (count_if (h && do_meet es t.0.0.query.path) t.1 (cond h (view_met es b ws t.0) t.0.1)))) [
+          | true ↦ met_goes t
+          | false ↦ same_goes t.0.1 t.1
+        ]
+
     met_number : (l : Listener) → (renewed_met es b ws l).number ≡ l.number
     met_number l = elim (do_meet es l.query.path) as (λ z. (cond z (renewed b ws l) l).number ≡ l.number) [ true ↦ kept_number l | false ↦ refl ]
 
@@ -351,10 +358,11 @@ module _ (h : Held) (s : Step) (k : Held) (rises : Rises (h.world).listeners) (v
 
   met_on : (es : List Assignment) → RefreshesViews h es k → CountsOn h k
   met_on es has =
-      let rows = changed_rows (renewed_met es b ws) (view_met es b ws) (count_met es b ws) (h.world).listeners h.views h.counts old is_old in
-      counts_on (map (changed (renewed_met es b ws) (view_met es b ws) (count_met es b ws)) old)
+      let range : Option Query = has.range in
+      let rows = changed_rows (renewed_met es b ws) (view_heard range es b ws) (count_heard range es b ws) (h.world).listeners h.views h.counts old is_old in
+      counts_on (map (changed (renewed_met es b ws) (view_heard range es b ws) (count_heard range es b ws)) old)
       (record { listeners = has.listeners ∙ rows.listeners; views = has.views ∙ rows.views; counts = has.counts ∙ rows.counts })
-      (changed_all (renewed_met es b ws) (view_met es b ws) (count_met es b ws) (met_number b ws es) (met_goes b ws es) old)
+      (changed_all (renewed_met es b ws) (view_heard range es b ws) (count_heard range es b ws) (met_number b ws es) (heard_goes b ws es range) old)
 
   added_on : (seat : ℕ) (query : Query) → AddsView h seat query k → CountsOn h k
   added_on seat query has =
@@ -413,6 +421,8 @@ same_refreshed h k viewed same =
     let b : Brought = (k.world).brought in
     let ws : List Write = pending (k.world).requests in
     record {
+      range = None;
+      still = λ l there e. absurd (true≢false e);
       listeners = same.listeners ∙ none_renewed b ws (h.world).listeners;
       views = same.views ∙ none_met b ws (IsViewed h.world) (h.world).listeners h.views viewed.pairs;
       counts = same.counts ∙ none_counted b ws (IsViewed h.world) (h.world).listeners h.views h.counts viewed.pairs viewed.counted;

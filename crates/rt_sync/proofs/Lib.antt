@@ -15,5 +15,7 @@ pub mod PushedTags
 pub mod RefusalLaws
 pub mod TagLaws
 pub mod Uncovered
+pub mod Unheard
+pub mod Unmoved
 pub mod Viewed
 pub mod ViewLaws

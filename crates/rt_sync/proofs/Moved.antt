@@ -1,24 +1,25 @@
 -- The queries that are told to be moved are just those that a change of the cover moves.
-use Rattle.std.proofs.Common.{◌≡◌, ℕ, ◌<◌, Bool, true, false, cond, not, ◌&&◌, ◌==◌, List, map, refl, sym, ap, subst, ◌∙◌, Option, Some, None}
+use Rattle.std.proofs.Common.{◌≡◌, ℕ, ◌<◌, Bool, true, false, cond, not, ◌&&◌, ◌==◌, List, map, refl, sym, ap, subst, ◌∙◌, Option, Some, None, is_some, inl, inr}
 use mathlib.Core.Bool.{true≢false}
 use Rattle.std.specs.List.{list_any, Any, Contains}
 use Rattle.std.specs.Option.{option_map_or, option_eq}
 use Rattle.std.proofs.lemmas.List.Elements.{All-contains}
 use Rattle.std.proofs.lemmas.List.Folds.{Any-from_list_any, list_any_at}
-use Rattle.rt_tree.specs.PathTree.{Path, path_eq}
+use Rattle.rt_tree.specs.PathTree.{Path, path_eq, path_eq-is, path_eq-same}
 use Rattle.rt_tree.specs.TreeEq.{both, both_first, both_second}
 use Rattle.rt_query.specs.Queries.{Query, plain, is_filtered}
 use Rattle.rt_query.specs.QueryEq.{query_eq}
-use Rattle.rt_query.specs.Supply.{form}
+use Rattle.rt_query.specs.Supply.{does_supply, form}
+use Rattle.rt_query.specs.laws.NeededLaws.{Contains-filter}
 use Rattle.rt_query.specs.laws.QueryEq.{query_eq_tells}
 use Rattle.rt_query.specs.laws.SupplyLaws.{form_filtered, supplied_is_filtered, supplied_has_path}
-use Rattle.rt_cache.specs.Brought.{Brought, region_part, source, may_move}
+use Rattle.rt_cache.specs.Brought.{Brought, region_part, source, is_another_at, may_move, window_of}
 use Rattle.rt_cache.specs.Canonical.{IsCanonical, Belongs}
 use Rattle.rt_cache.specs.Recover.{reaches, regions_kept, cut, heirs, recover, is_moved}
 use Rattle.rt_cache.proofs.Changing.{is_brought, is_change}
 use Rattle.rt_cache.proofs.FilteredRuns.{calls_hold}
-use Rattle.rt_cache.proofs.Moves.{IsBrought, IsChange, IsSource, source_is, brought_still}
-use Rattle.rt_cache.proofs.Unmoved.{ends_move_none, no_region, own_source}
+use Rattle.rt_cache.proofs.Moves.{IsBrought, IsChange, IsSource, source_is, brought_still, kind_of, old_heir}
+use Rattle.rt_cache.proofs.Unmoved.{no_region, own_source}
 use Rattle.rt_cover.specs.declared.delta.Delta.{Delta}
 use Rattle.rt_cover.specs.Cover.{Registered, Tagged}
 use Rattle.rt_cover.specs.State.{Cover}
@@ -30,8 +31,10 @@ use Rattle.rt_world.specs.World.{Listener, registered, listening}
 use Rattle.rt_world.proofs.RecoverLaws.{region_after}
 use Rattle.rt_sync.specs.declared.steps.moving.Had.{Had}
 use Rattle.rt_sync.specs.inside.Losing.{HasLost}
-use Rattle.rt_sync.specs.inside.Moving.{may_move_at, has_others, is_lent, is_had, AreHad, has_come, is_moved_now, is_moved_among}
+use Rattle.rt_parts.specs.Refreshed.{is_supplied_at}
+use Rattle.rt_sync.specs.inside.Moving.{may_move_at, may_move_it, has_others, is_lent, is_had, AreHad, has_come, is_moved_now, is_moved_among}
 use Rattle.rt_sync.proofs.Losing.{ends_forms}
+use Rattle.rt_sync.proofs.Unmoved.{Contains-of_map, ends_move_none, may_by, unlimited}
 
 -- ---- tests
 
@@ -95,24 +98,28 @@ module _ (was is : Cover) (numbers : List ℕ) (ls : List Listener) (ended : Lis
   abbrev stays : Registered → Bool
   stays r = not (list_any (λ n. n == r.0) numbers)
 
+  -- a listener that doesn't stay has its form among the ended ones
+  ends : (c : Bool) → not c ≡ false → c ≡ true
+  ends true e = refl
+  ends false e = absurd (true≢false e)
+
+  ended_form : (r : Registered) → Contains was.listeners r → stays r ≡ false → Any (λ g. query_eq g r.1 ≡ true) ended
+  ended_form r m s = Any-from_list_any (λ g. query_eq g r.1) ended (h.given r m (ends (list_any (λ n. n == r.0) numbers) s))
+
   -- where none of the forms whose listeners end may move it, a query isn't moved
-  unmoved : (q : Query) → may_move_at b ended q.path ≡ false → is_moved b new q ≡ false
+  unmoved : (q : Query) → may_move_it b ended q ≡ false → is_moved b new q ≡ false
   unmoved q none =
       ends_move_none (λ (r : Registered). r.1) stays was.listeners b left new (reaches kept) handed brought change
       h.registered (ap listening h.left) q quiet
     where
-      quiet : (r : Registered) → Contains was.listeners r → stays r ≡ false → (may_move b r.1 && path_eq (r.1).path q.path) ≡ false
-      quiet r m s = at (may_move b r.1 && path_eq (r.1).path q.path) refl
+      quiet : (r : Registered) → Contains was.listeners r → stays r ≡ false → (may_move b r.1 && is_supplied_at r.1 q) ≡ false
+      quiet r m s = at (may_move b r.1 && is_supplied_at r.1 q) refl
         where
-          ends : (c : Bool) → not c ≡ false → c ≡ true
-          ends true e = refl
-          ends false e = absurd (true≢false e)
-
-          at : (c : Bool) → (may_move b r.1 && path_eq (r.1).path q.path) ≡ c → c ≡ false
+          at : (c : Bool) → (may_move b r.1 && is_supplied_at r.1 q) ≡ c → c ≡ false
           at false e = refl
           at true e =
-              let a = Any-from_list_any (λ g. query_eq g r.1) ended (h.given r m (ends (list_any (λ n. n == r.0) numbers) s)) in
-              absurd (true≢false (sym (any_with (λ f. may_move b f && path_eq f.path q.path) ended a.1 (a.0, a.2, a.3) (ap (λ f. may_move b f && path_eq f.path q.path) ((query_eq_tells a.1 r.1).0 a.4) ∙ e)) ∙ none))
+              let a = ended_form r m s in
+              absurd (true≢false (sym (any_with (λ f. may_move b f && is_supplied_at f q) ended a.1 (a.0, a.2, a.3) (ap (λ f. may_move b f && is_supplied_at f q) ((query_eq_tells a.1 r.1).0 a.4) ∙ e)) ∙ none))
 
   -- a filtered form that is listened to is a listener's query
   listened : (g : Query) → is_filtered g ≡ true → Contains fs g → list_any (λ (l : Listener). query_eq l.query g) ls ≡ true
@@ -143,6 +150,53 @@ module _ (was is : Cover) (numbers : List ℕ) (ls : List Listener) (ended : Lis
 
     path_g : g.path ≡ q.path
     path_g = supplied_has_path g q there_g.1 y.supplies
+
+  -- where a form has another one's window, and gets one of its own, the other one's listeners have ended: it may
+  -- move the form, if one may that ends at its path
+  module _ (f g : Query) (had : source b g ≡ Some f) (other : query_eq f g ≡ false) (now : is_some (window_of new.windows g) ≡ true) where
+    given_by : IsSource b g f
+    given_by = source_is b g f (no_region b g f had) had
+
+    filtered_x : is_filtered f ≡ true
+    filtered_x = (brought.forms f given_by.window).1
+
+    path_x : f.path ≡ g.path
+    path_x = supplied_has_path f g filtered_x given_by.supplies
+
+    gone : Contains fs f → ⊥
+    gone m = elim (kind_of b left new (reaches kept) handed brought change g now) [
+      | inl n ↦ old_heir b left new (reaches kept) handed brought change f g (ap is_some (change.stay f m) ∙ given_by.window) m n given_by.supplies
+      | inr has ↦ true≢false (sym ((query_eq_tells f g).1 (some_is f g (sym had ∙ own_source b brought g has.0))) ∙ other)
+    ]
+
+    lost : Any (λ e. query_eq e f ≡ true) ended
+    lost =
+        let r = Contains-of_map (λ (r : Registered). r.1) was.listeners f (subst (λ rs. Contains rs f) h.registered given_by.registered) in
+        let a = ended_form r.0 r.1 (leaves r.0 r.1 r.2 (stays r.0) refl) in
+        (a.0, a.1, a.2, a.3, ap (query_eq a.1) (sym r.2) ∙ a.4)
+      where
+        leaves : (r : Registered) → Contains was.listeners r → r.1 ≡ f → (c : Bool) → stays r ≡ c → stays r ≡ false
+        leaves r m same false e = e
+        leaves r m same true e =
+            let left_is : Contains is.listeners r = subst (λ rs. Contains rs r) (sym h.left) (Contains-filter stays was.listeners r m e) in
+            absurd (gone (subst (Contains fs) same (Contains-map (λ (y : Registered). y.1) is.listeners left_is.0 r left_is.1 left_is.2)))
+
+    pub source_may_move : may_move_at b ended g.path ≡ true → may_move_it b ended g ≡ true
+    source_may_move place =
+        let m = Any-from_list_any (λ e. may_move b e && path_eq e.path g.path) ended place in
+        let may : may_move b m.1 ≡ true = both_first (may_move b m.1) (path_eq (m.1).path g.path) m.4 in
+        let path : (m.1).path ≡ g.path = path_eq-is (m.1).path g.path (both_second (may_move b m.1) (path_eq (m.1).path g.path) m.4) in
+        let window : is_some (window_of b.windows m.1) ≡ true = has_window m.1 may in
+        any_with (λ e. may_move b e && is_supplied_at e g) ended lost.1 (lost.0, lost.2, lost.3)
+        (both (may_move b lost.1) (is_supplied_at lost.1 g) (ap (may_move b) ((query_eq_tells lost.1 f).0 lost.4) ∙ by m.1 may path window (query_eq m.1 f) refl)
+        (ap (λ (e : Query). is_supplied_at e g) ((query_eq_tells lost.1 f).0 lost.4) ∙ both (path_eq g.path f.path) (does_supply f g) (ap (path_eq g.path) path_x ∙ path_eq-same g.path) given_by.supplies))
+      where
+        has_window : (e : Query) → may_move b e ≡ true → is_some (window_of b.windows e) ≡ true
+        has_window e may = both_second (not (is_some e.limit)) (is_some (window_of b.windows e)) (both_first (not (is_some e.limit) && is_some (window_of b.windows e)) (list_any (λ w. is_another_at e w.0) b.windows) may)
+
+        by : (e : Query) → may_move b e ≡ true → e.path ≡ g.path → is_some (window_of b.windows e) ≡ true → (c : Bool) → query_eq e f ≡ c → may_move b f ≡ true
+        by e may path window true t = ap (may_move b) (sym ((query_eq_tells e f).0 t)) ∙ may
+        by e may path window false t = may_by b f e (unlimited f g filtered_x other given_by.supplies) given_by.window window t (path ∙ sym path_x)
 
   abbrev moved_to : Query → Query → Option Query → Bool
   moved_to q f now = not (query_eq f q) && option_map_or (λ g. not (option_eq query_eq (source b g) (Some f))) now false
@@ -192,7 +246,7 @@ module _ (was is : Cover) (numbers : List ℕ) (ls : List Listener) (ended : Lis
 
         -- the query is one of those that are lent a window
         lent : (may_move_at b ended q.path && is_lent b ls q) ≡ true
-        lent = sym (a.those q) ∙ any_with (λ (z : Had). query_eq z.query q) had z (any.0, any.2, any.3) (both_first (query_eq z.query q) (is_moved_now new had z) any.4)
+        lent = a.only q (any_with (λ (z : Had). query_eq z.query q) had z (any.0, any.2, any.3) (both_first (query_eq z.query q) (is_moved_now new had z) any.4))
 
         place : may_move_at b ended q.path ≡ true
         place = both_first (may_move_at b ended q.path) (is_lent b ls q) lent
@@ -223,9 +277,16 @@ module _ (was is : Cover) (numbers : List ℕ) (ls : List Listener) (ended : Lis
             at : Contains fs g.0 × (is_filtered g.0 ≡ true)
             at = there_g q z.source g.0 from g.1
 
+            unlike : query_eq z.source g.0 ≡ false
+            unlike = turned z.source g.0 ∙ apart
+
+            now : is_some (window_of new.windows g.0) ≡ true
+            now = (source_is new q g.0 (no_region new q g.0 g.1) g.1).window
+
             is_there : is_had had g.0 ≡ true
-            is_there = a.those g.0 ∙ both (may_move_at b ended (g.0).path) (is_lent b ls g.0) (ap (may_move_at b ended) (path_g q z.source g.0 from g.1) ∙ place)
-                (both (is_filtered g.0 && list_any (λ (l : Listener). query_eq l.query g.0) ls) (has_others b g.0) (both (is_filtered g.0) (list_any (λ (l : Listener). query_eq l.query g.0) ls) at.1 (listened g.0 at.1 at.0)) (others g.0 z.source had_by (turned z.source g.0 ∙ apart)))
+            is_there = a.all g.0 (both (may_move_it b ended g.0) (is_lent b ls g.0)
+                (source_may_move z.source g.0 had_by unlike now (ap (may_move_at b ended) (path_g q z.source g.0 from g.1) ∙ place))
+                (both (is_filtered g.0 && list_any (λ (l : Listener). query_eq l.query g.0) ls) (has_others b g.0) (both (is_filtered g.0) (list_any (λ (l : Listener). query_eq l.query g.0) ls) at.1 (listened g.0 at.1 at.0)) (others g.0 z.source had_by unlike)))
 
     -- and what is moved is there
     back : (q : Query) → list_any (λ (r : Registered). query_eq r.1 (form q)) is.listeners ≡ true → is_moved b new q ≡ true → is_moved_among new had q ≡ true
@@ -257,16 +318,16 @@ module _ (was is : Cover) (numbers : List ℕ) (ls : List Listener) (ended : Lis
                     mapped rs r n = Contains-map (λ (x : Registered). x.1) rs n.0 r n.1 n.2
 
                 -- a form that may move it ended
-                place : may_move_at b ended q.path ≡ true
-                place = by (may_move_at b ended q.path) refl
+                place : may_move_it b ended q ≡ true
+                place = by (may_move_it b ended q) refl
                   where
-                    by : (c : Bool) → may_move_at b ended q.path ≡ c → may_move_at b ended q.path ≡ true
+                    by : (c : Bool) → may_move_it b ended q ≡ c → may_move_it b ended q ≡ true
                     by true t = t
                     by false t = absurd (true≢false (sym e ∙ unmoved q t))
 
                 is_there : is_had had q ≡ true
-                is_there = a.those q ∙ both (may_move_at b ended q.path) (is_lent b ls q) place
-                    (both (is_filtered q && list_any (λ (l : Listener). query_eq l.query q) ls) (has_others b q) (both (is_filtered q) (list_any (λ (l : Listener). query_eq l.query q) ls) filtered (listened q filtered registered_q)) (others q f from differs))
+                is_there = a.all q (both (may_move_it b ended q) (is_lent b ls q) place
+                    (both (is_filtered q && list_any (λ (l : Listener). query_eq l.query q) ls) (has_others b q) (both (is_filtered q) (list_any (λ (l : Listener). query_eq l.query q) ls) filtered (listened q filtered registered_q)) (others q f from differs)))
 
                 own : Any (λ (w : Had). query_eq w.query q ≡ true) had
                 own = Any-from_list_any (λ (w : Had). query_eq w.query q) had is_there

@@ -1,16 +1,18 @@
 -- What is gathered of queries, one after another.
-use Rattle.std.proofs.Common.{◌≡◌, ℕ, ◌+◌, ◌<◌, Bool, true, false, cond, not, ◌&&◌, ◌||◌, List, [], ◌∷◌, ◌++◌, length, get_or, take, refl, sym, ap, ◌∙◌, Some, None}
+use Rattle.std.proofs.Common.{◌≡◌, ℕ, ◌+◌, ◌<◌, Bool, true, false, cond, not, ◌&&◌, ◌||◌, List, [], ◌∷◌, ◌++◌, length, get_or, take, refl, sym, ap, ◌∙◌, arith, Some, None}
 use mathlib.Core.Bool.{true≢false}
 use Rattle.std.specs.List.{dedup, dedup_from, list_any}
 use Rattle.std.specs.Option.{option_map_or}
 use Rattle.std.proofs.lemmas.List.Elements.{All-append, All-cons, All-nil}
-use Rattle.std.proofs.lemmas.List.Folds.{list_any-append, list_any_more}
+use Rattle.std.proofs.lemmas.List.Folds.{Any-from_list_any, list_any-append, list_any_at, list_any_more}
 use Rattle.rt_tree.specs.PathTree.{Path, path_eq, path_eq-is, path_eq-symm}
 use Rattle.rt_query.specs.Queries.{Query, is_filtered}
 use Rattle.rt_query.specs.QueryEq.{query_eq}
+use Rattle.rt_query.specs.Supply.{does_supply}
 use Rattle.rt_query.specs.laws.QueryEq.{query_eq_tells}
 use Rattle.rt_cache.specs.Brought.{Brought, source}
 use Rattle.rt_cache.specs.Recover.{is_among}
+use Rattle.rt_parts.specs.Refreshed.{is_supplied_at}
 use Rattle.rt_parts.specs.Renewed.{is_listened_at}
 use Rattle.rt_world.specs.World.{Listener}
 use Rattle.rt_sync.specs.declared.steps.moving.Had.{Had}
@@ -47,14 +49,14 @@ any_step test xs i x old new within at before more =
 
 -- ---- forms, one of each path
 
-module _ (old : List Query) (f : Query) (may : Bool) (p : Path) where
-  pub no_mover : may ≡ false → is_of_path old p ≡ (is_of_path old p || (may && path_eq f.path p))
-  no_mover e = or_none (is_of_path old p) ∙ ap (λ b. is_of_path old p || (b && path_eq f.path p)) (sym e)
+module _ (old : List Query) (f : Query) (may : Bool) (t : Query → Bool) where
+  pub no_mover : may ≡ false → list_any t old ≡ (list_any t old || (may && t f))
+  no_mover e = or_none (list_any t old) ∙ ap (λ b. list_any t old || (b && t f)) (sym e)
 
-  pub more_mover : may ≡ true → is_of_path (old ++ f ∷ []) p ≡ (is_of_path old p || (may && path_eq f.path p))
+  pub more_mover : may ≡ true → list_any t (old ++ f ∷ []) ≡ (list_any t old || (may && t f))
   more_mover e =
-      list_any-append (λ (x : Query). path_eq x.path p) old (f ∷ [])
-      ∙ ap (λ b. is_of_path old p || b) (sym (or_none (path_eq f.path p)) ∙ ap (λ b. b && path_eq f.path p) (sym e))
+      list_any-append t old (f ∷ [])
+      ∙ ap (λ b. list_any t old || b) (sym (or_none (t f)) ∙ ap (λ b. b && t f) (sym e))
 
 -- two forms of one path
 abbrev pub of_one_path : Query → Query → Bool
@@ -182,3 +184,42 @@ module _ (old : List Query) (r q : Query) (is : Bool) where
       at : (c : Bool) → c ≡ (c && true)
       at true = refl
       at false = refl
+
+-- ---- one form alone
+
+-- a list of one
+only_one : (fs : List Query) (d : Query) → length fs ≡ 1 → fs ≡ get_or fs 0 d ∷ []
+only_one [] d e = absurd (omega (arith, e))
+only_one (f ∷ []) d e = refl
+only_one (f ∷ g ∷ fs) d e = absurd (omega (arith, e))
+
+-- the tests of a query that a range supplies, and that is lent a window
+pub supplied_lent : (f p h s o : Bool) → (((f && p && h) && s) && o) ≡ ((p && s) && (f && h && o))
+supplied_lent true true true true o = refl
+supplied_lent true true true false o = refl
+supplied_lent true true false true o = refl
+supplied_lent true true false false o = refl
+supplied_lent true false h s o = refl
+supplied_lent false true h true o = refl
+supplied_lent false true h false o = refl
+supplied_lent false false h s o = refl
+
+-- what one form supplies is of its path
+module _ (b : Brought) (ls : List Listener) (fs : List Query) (f q : Query) (long : length fs ≡ 1) (at : f ≡ get_or fs 0 f) where
+  one : fs ≡ f ∷ []
+  one = only_one fs f long ∙ ap (λ g. g ∷ []) (sym at)
+
+  pub one_of_paths : (is_supplied_at f q && is_lent b ls q) ≡ true → (is_of_path fs q.path && is_lent b ls q) ≡ true
+  one_of_paths e =
+      let here : path_eq f.path q.path ≡ true = path_eq-symm f.path q.path ∙ first (path_eq q.path f.path) (does_supply f q) (first (is_supplied_at f q) (is_lent b ls q) e) in
+      ap (λ gs. is_of_path gs q.path && is_lent b ls q) one ∙ ap (λ c. (c || false) && is_lent b ls q) here ∙ second (is_supplied_at f q) (is_lent b ls q) e
+
+  pub one_supplied : (list_any (λ (g : Query). is_supplied_at g q) fs && is_lent b ls q) ≡ true → (is_supplied_at f q && is_lent b ls q) ≡ true
+  one_supplied e = ap (λ c. c && is_lent b ls q) (or_none (is_supplied_at f q)) ∙ sym (ap (λ gs. list_any (λ (g : Query). is_supplied_at g q) gs && is_lent b ls q) one) ∙ e
+
+-- so it is with several
+pub of_path_supplied : (fs : List Query) (q : Query) (lent : Bool) → (list_any (λ (g : Query). is_supplied_at g q) fs && lent) ≡ true → (is_of_path fs q.path && lent) ≡ true
+of_path_supplied fs q lent e =
+    let a = Any-from_list_any (λ (g : Query). is_supplied_at g q) fs (first (list_any (λ (g : Query). is_supplied_at g q) fs) lent e) in
+    let at : path_eq (get_or fs a.0 a.1).path q.path ≡ true = path_eq-symm (get_or fs a.0 a.1).path q.path ∙ ap (λ (g : Query). path_eq q.path g.path) a.3 ∙ first (path_eq q.path (a.1).path) (does_supply a.1 q) a.4 in
+    ap (λ c. c && lent) (list_any_at (λ (g : Query). path_eq g.path q.path) fs a.0 a.1 a.2 at) ∙ second (list_any (λ (g : Query). is_supplied_at g q) fs) lent e

@@ -2,8 +2,10 @@
 use Rattle.std.proofs.Common.{◌≡◌, ℕ, ◌+◌, Bool, true, false, cond, not, ◌||◌, List, [], ◌∷◌, ◌++◌, map, refl, sym, ap, ◌∙◌, Option, Some, None}
 use Rattle.std.specs.Prelude.{◌==◌, is_some}
 use Rattle.rt_parts.specs.declared.requests.Settled.{Settled as Left}
-use Rattle.std.specs.List.{filter, find, fold, list_any, zip}
+use mathlib.Core.Bool.{true≢false}
+use Rattle.std.specs.List.{Contains, filter, find, fold, list_any, zip}
 use Rattle.std.specs.Option.{option_and_then, option_map, option_map_or, option_to_list}
+use Rattle.rt_query.specs.Queries.{Query}
 use Rattle.rt_query.specs.Supply.{form}
 use Rattle.rt_tree.specs.Assignments.{Assignment}
 use Rattle.rt_writes.specs.Writes.{Write}
@@ -22,7 +24,7 @@ use Rattle.rt_world.specs.declared.report.Note.{Note}
 use Rattle.rt_world.specs.World.{Reason, World, Listener, registered, pending, entries_of}
 use Rattle.rt_world.specs.After.{renewed}
 use Rattle.rt_world.specs.Messages.{listens, request_message}
-use Rattle.rt_parts.specs.Refreshed.{count_met, view_met}
+use Rattle.rt_parts.specs.Refreshed.{count_heard, hears, view_heard}
 use Rattle.rt_parts.specs.Settling.{settled}
 use Rattle.rt_world.specs.Refusals.{is_stale}
 use Rattle.rt_world.specs.Answers.{settled_note, done_report}
@@ -37,7 +39,7 @@ use Rattle.rt_sync.specs.inside.Due.{IsDue, IsNext, settling}
 use Rattle.rt_sync.specs.inside.Parts.{listens_shown}
 use Rattle.rt_sync.specs.declared.state.State.{State}
 use Rattle.rt_sync.specs.inside.StateView.{IsTied, world_of}
-use Rattle.rt_sync.specs.inside.Viewed.{HasViews, RefreshesViews}
+use Rattle.rt_sync.specs.inside.Viewed.{HasViews, IsStill, RefreshesViews}
 
 -- ---- the parts agree
 
@@ -130,17 +132,28 @@ settling_leaves : AcceptedIsMade → RefusedIsMade → (w : World) (id : ℕ) (w
 settling_leaves accepted refused w id None d = accepted w id (made_of w (Step.Accepted id) d) d.good.reached
 settling_leaves accepted refused w id (Some why) d = refused w id why (made_of w (Step.Refused id why) d) d.good.reached
 
--- so do the views of the listeners that are refreshed
+-- so do the views of the listeners that are refreshed, where those that hear of no entry are still
+pub refreshes_heard : (h : Held) (k : Held) (range : Option Query) → ((l : Listener) → Contains (h.world).listeners l → hears range l.query ≡ false → IsStill h.world k.world l)
+    → (entries es : List Assignment) → entries ≡ es → (ws : List Write) → ws ≡ pending (k.world).requests
+    → (k.world).listeners ≡ map (renewed_met entries (k.world).brought ws) (h.world).listeners
+    → k.views ≡ map (view_heard range entries (k.world).brought ws) (zip (h.world).listeners h.views)
+    → k.counts ≡ map (count_heard range entries (k.world).brought ws) (zip (zip (h.world).listeners h.views) h.counts)
+    → RefreshesViews h es k
+refreshes_heard h k range still entries es ee ws we ls vs cs = record {
+  range = range;
+  still = still;
+  listeners = ls ∙ (λ i. map (renewed_met (ee i) (k.world).brought (we i)) (h.world).listeners);
+  views = vs ∙ (λ i. map (view_heard range (ee i) (k.world).brought (we i)) (zip (h.world).listeners h.views));
+  counts = cs ∙ (λ i. map (count_heard range (ee i) (k.world).brought (we i)) (zip (zip (h.world).listeners h.views) h.counts));
+}
+
+-- all hear of what is no push on a range alone
 pub refreshes : (h : Held) (k : Held) (entries es : List Assignment) → entries ≡ es → (ws : List Write) → ws ≡ pending (k.world).requests
     → (k.world).listeners ≡ map (renewed_met entries (k.world).brought ws) (h.world).listeners
-    → k.views ≡ map (view_met entries (k.world).brought ws) (zip (h.world).listeners h.views)
-    → k.counts ≡ map (count_met entries (k.world).brought ws) (zip (zip (h.world).listeners h.views) h.counts)
+    → k.views ≡ map (view_heard None entries (k.world).brought ws) (zip (h.world).listeners h.views)
+    → k.counts ≡ map (count_heard None entries (k.world).brought ws) (zip (zip (h.world).listeners h.views) h.counts)
     → RefreshesViews h es k
-refreshes h k entries es ee ws we ls vs cs = record {
-  listeners = ls ∙ (λ i. map (renewed_met (ee i) (k.world).brought (we i)) (h.world).listeners);
-  views = vs ∙ (λ i. map (view_met (ee i) (k.world).brought (we i)) (zip (h.world).listeners h.views));
-  counts = cs ∙ (λ i. map (count_met (ee i) (k.world).brought (we i)) (zip (zip (h.world).listeners h.views) h.counts));
-}
+refreshes h k entries es ee ws we ls vs cs = refreshes_heard h k None (λ l there e. absurd (true≢false e)) entries es ee ws we ls vs cs
 
 -- where a request is settled, whether it is accepted or refused
 pub settled_views : (h : Held) (id : ℕ) (why : Option Reason) (k : Held) → RefreshesViews h (entries_settled h.world id) k → HasViews h (settling id why) k

@@ -18,7 +18,7 @@ use Rattle.rt_cover.specs.Runs.{Change, Add, Remove, Revoke}
 use Rattle.rt_view.specs.Views.{View, shown_of, first_view, stays_object, touched, with_named}
 use Rattle.rt_view.specs.Views.{renewed as taken}
 use Rattle.rt_parts.specs.Listeners.{first_view_of, new_listener, views_left, views_where}
-use Rattle.rt_parts.specs.Refreshed.{FollowNamed, is_touched, named_children, view_after, view_met}
+use Rattle.rt_parts.specs.Refreshed.{FollowNamed, hears, is_touched, named_children, view_after, view_heard, view_met}
 use Rattle.rt_parts.specs.Renewed.{renewed_of, view_anew, view_of}
 use Rattle.rt_world.specs.declared.step.Step.{Step}
 use Rattle.rt_world.specs.declared.request.Request.{Request}
@@ -40,7 +40,7 @@ use Rattle.rt_world.specs.laws.Touch.{ElseFewAreSeen, SeenAreChildren, Stays, To
 use Rattle.rt_sync.specs.Core.{Held, without_first}
 use Rattle.rt_sync.specs.Reads.{IsTurn, ReadsNamed, TurnsOnce, most_read, view_held}
 use Rattle.rt_sync.specs.inside.Due.{IsDue, settling}
-use Rattle.rt_sync.specs.inside.Viewed.{ArePaired, HasViews, HasViewsBy, IsViewed, LeavesViews, Pairs, ShowsSeen, all_in}
+use Rattle.rt_sync.specs.inside.Viewed.{ArePaired, HasViews, HasViewsBy, IsStill, IsViewed, LeavesViews, Pairs, ShowsSeen, all_in}
 use Rattle.rt_sync.proofs.TagLaws.{other_number}
 use Rattle.rt_sync.proofs.Uncovered.{uncovered_unmoved, unmet_uncovered}
 
@@ -550,46 +550,67 @@ module _ (laws : TouchLaws) (law : PushIsBrought) (h : Held) (s : Step) (sound :
     | false ↦ refl
   ]
 
+  -- one that hears of no entry, and sees what it saw
+  still_one : (l : Listener) (n : Option View) → IsViewed h.world l n → IsStill h.world v l → So l n (renewed_met es b ws l) n
+  still_one l n has still = (
+    subst (λ (m : Listener). IsViewed v m n) (sym stays_met) (viewed_still n has),
+    same_turn (length (children_of (seen v l.query))) (most_read h.world s v l.query) n,
+  )
+    where
+      stays_met : renewed_met es b ws l ≡ l
+      stays_met = elim (do_meet es l.query.path) as (λ c. cond c (renewed b ws l) l ≡ l) [ true ↦ still.0 | false ↦ refl ]
+
+      viewed_still : (o : Option View) → IsViewed h.world l o → IsViewed v l o
+      viewed_still None is = is
+      viewed_still (Some u) is = record { query = is.query; children = λ k. is.children k ∙ ap (λ t. child t k) (sym still.1); shown = is.shown }
+
   -- all of them
-  map_aligned : (ls : List Listener) (vs : List (Option View)) → Pairs (IsViewed h.world) ls vs → AreAligned (map (renewed_met es b ws) ls) (map (view_met es b ws) (zip ls vs))
-  map_aligned [] [] p = tt
-  map_aligned [] (n ∷ vs) p = absurd p
-  map_aligned (l ∷ ls) [] p = absurd p
-  map_aligned (l ∷ ls) (n ∷ vs) p = (tt, map_aligned ls vs p.1)
+  module _ (range : Option Query) (still : (l : Listener) → Contains (h.world).listeners l → hears range l.query ≡ false → IsStill h.world v l) where
+    heard_one : (l : Listener) (n : Option View) → Contains (h.world).listeners l → IsViewed h.world l n → l.view ≡ view_by l.is_primed h.world l.query → So l n (renewed_met es b ws l) (view_heard range es b ws (l, n))
+    heard_one l n there has is = elim (hears range l.query) as (λ c. hears range l.query ≡ c → So l n (renewed_met es b ws l) (cond c (view_met es b ws (l, n)) n)) [
+      | true ↦ λ e. one l n there has is
+      | false ↦ λ e. still_one l n has (still l there e)
+    ] refl
 
-  map_in : (ls : List Listener) (vs : List (Option View)) (m : Listener) (o : Option View) → In m o (map (renewed_met es b ws) ls) (map (view_met es b ws) (zip ls vs))
-      → (l : Listener) × (n : Option View) × In l n ls vs × (renewed_met es b ws l ≡ m) × (view_met es b ws (l, n) ≡ o)
-  map_in [] vs m o i = absurd i
-  map_in (l ∷ ls) [] m o i = absurd i
-  map_in (l ∷ ls) (n ∷ vs) m o (inl e) = (l, n, inl (refl, refl), e.0, e.1)
-  map_in (l ∷ ls) (n ∷ vs) m o (inr i) = let r = map_in ls vs m o i in (r.0, r.1, inr r.2, r.3, r.4)
+    map_aligned : (ls : List Listener) (vs : List (Option View)) → Pairs (IsViewed h.world) ls vs → AreAligned (map (renewed_met es b ws) ls) (map (view_heard range es b ws) (zip ls vs))
+    map_aligned [] [] p = tt
+    map_aligned [] (n ∷ vs) p = absurd p
+    map_aligned (l ∷ ls) [] p = absurd p
+    map_aligned (l ∷ ls) (n ∷ vs) p = (tt, map_aligned ls vs p.1)
 
-  came : (ls : List Listener) (vs : List (Option View)) → ls ≡ map (renewed_met es b ws) (h.world).listeners → vs ≡ map (view_met es b ws) (zip (h.world).listeners h.views)
-      → (m : Listener) (o : Option View) → In m o ls vs → IsViewed v m o × Comes h s v m o
-  came ls vs le ve m o i =
-      let r = map_in (h.world).listeners h.views m o (subst (λ (p : List Listener × List (Option View)). In m o p.0 p.1) (λ j. (le j, ve j)) i) in
-      let there = in_contains (h.world).listeners h.views r.0 r.1 r.2 in
-      let has = pairs_at (IsViewed h.world) (h.world).listeners h.views viewed r.0 r.1 r.2 in
-      let is = at_listener (λ (x : Listener). x.view ≡ view_by x.is_primed h.world x.query) (h.world).listeners h.views r.0 r.1 r.2 sound.views in
-      let so = one r.0 r.1 there has is in
-      let number : m.number ≡ r.0.number = ap (λ (x : Listener). x.number) (sym r.3) ∙ number_met r.0 in
-      let query : m.query ≡ r.0.query = ap (λ (x : Listener). x.query) (sym r.3) ∙ query_met r.0 in (
-        subst (λ (p : Listener × Option View). IsViewed v p.0 p.1) (λ j. (r.3 j, r.4 j)) so.0,
-        (
-          r.1,
-          ap (λ j. found j (h.world).listeners h.views) number ∙ found_own (h.world).listeners h.views r.0 r.1 sound.rises r.2,
-          subst (λ (p : Query × Option View). IsTurn (length (children_of (seen v p.0))) (most_read h.world s v p.0) r.1 p.1) (λ j. (sym query j, r.4 j)) so.1,
-        ),
-      )
+    map_in : (ls : List Listener) (vs : List (Option View)) (m : Listener) (o : Option View) → In m o (map (renewed_met es b ws) ls) (map (view_heard range es b ws) (zip ls vs))
+        → (l : Listener) × (n : Option View) × In l n ls vs × (renewed_met es b ws l ≡ m) × (view_heard range es b ws (l, n) ≡ o)
+    map_in [] vs m o i = absurd i
+    map_in (l ∷ ls) [] m o i = absurd i
+    map_in (l ∷ ls) (n ∷ vs) m o (inl e) = (l, n, inl (refl, refl), e.0, e.1)
+    map_in (l ∷ ls) (n ∷ vs) m o (inr i) = let r = map_in ls vs m o i in (r.0, r.1, inr r.2, r.3, r.4)
 
-  pub met_viewed : (k : Held) → k.world ≡ v → Rises (k.world).listeners → (k.world).listeners ≡ map (renewed_met es b ws) (h.world).listeners → k.views ≡ map (view_met es b ws) (zip (h.world).listeners h.views) → ShowsStep h s k
-  met_viewed k is rises ls vs =
-      let from = came (k.world).listeners k.views ls vs in
-      follows h s k rises
-      (pairs_from (λ l n. Unit {0}) (IsViewed k.world) (k.world).listeners k.views
-      (subst (λ (p : List Listener × List (Option View)). AreAligned p.0 p.1) (λ i. (sym ls i, sym vs i)) (map_aligned (h.world).listeners h.views viewed))
-      (λ m o i. subst (λ x. IsViewed x m o) (sym is) (from m o i).0))
-      (λ m o i. subst (λ x. Comes h s x m o) (sym is) (from m o i).1)
+    came : (ls : List Listener) (vs : List (Option View)) → ls ≡ map (renewed_met es b ws) (h.world).listeners → vs ≡ map (view_heard range es b ws) (zip (h.world).listeners h.views)
+        → (m : Listener) (o : Option View) → In m o ls vs → IsViewed v m o × Comes h s v m o
+    came ls vs le ve m o i =
+        let r = map_in (h.world).listeners h.views m o (subst (λ (p : List Listener × List (Option View)). In m o p.0 p.1) (λ j. (le j, ve j)) i) in
+        let there = in_contains (h.world).listeners h.views r.0 r.1 r.2 in
+        let has = pairs_at (IsViewed h.world) (h.world).listeners h.views viewed r.0 r.1 r.2 in
+        let is = at_listener (λ (x : Listener). x.view ≡ view_by x.is_primed h.world x.query) (h.world).listeners h.views r.0 r.1 r.2 sound.views in
+        let so = heard_one r.0 r.1 there has is in
+        let number : m.number ≡ r.0.number = ap (λ (x : Listener). x.number) (sym r.3) ∙ number_met r.0 in
+        let query : m.query ≡ r.0.query = ap (λ (x : Listener). x.query) (sym r.3) ∙ query_met r.0 in (
+          subst (λ (p : Listener × Option View). IsViewed v p.0 p.1) (λ j. (r.3 j, r.4 j)) so.0,
+          (
+            r.1,
+            ap (λ j. found j (h.world).listeners h.views) number ∙ found_own (h.world).listeners h.views r.0 r.1 sound.rises r.2,
+            subst (λ (p : Query × Option View). IsTurn (length (children_of (seen v p.0))) (most_read h.world s v p.0) r.1 p.1) (λ j. (sym query j, r.4 j)) so.1,
+          ),
+        )
+
+    pub met_viewed : (k : Held) → k.world ≡ v → Rises (k.world).listeners → (k.world).listeners ≡ map (renewed_met es b ws) (h.world).listeners → k.views ≡ map (view_heard range es b ws) (zip (h.world).listeners h.views) → ShowsStep h s k
+    met_viewed k is rises ls vs =
+        let from = came (k.world).listeners k.views ls vs in
+        follows h s k rises
+        (pairs_from (λ l n. Unit {0}) (IsViewed k.world) (k.world).listeners k.views
+        (subst (λ (p : List Listener × List (Option View)). AreAligned p.0 p.1) (λ i. (sym ls i, sym vs i)) (map_aligned (h.world).listeners h.views viewed))
+        (λ m o i. subst (λ x. IsViewed x m o) (sym is) (from m o i).0))
+        (λ m o i. subst (λ x. Comes h s x m o) (sym is) (from m o i).1)
 
 -- ---- no entry meets any
 
@@ -624,9 +645,11 @@ follow_step laws law push sounds stay bare h s k d viewed is has = at (change_by
     at : (o : Option Change) → change_by h.world s ≡ o → HasViewsBy o h s k → ShowsStep h s k
     at None e has =
         let entries : List Assignment = entries_by h.world s in
-        met_viewed laws push h s d.good.sound d.good.called d.good.reached d.not_refused (changes None e) (stay h.world s (changes None e)) viewed k is rises
+        let range : Option Query = has.range in
+        let still = subst (λ (x : World). (l : Listener) → Contains (h.world).listeners l → hears range l.query ≡ false → IsStill h.world x l) is has.still in
+        met_viewed laws push h s d.good.sound d.good.called d.good.reached d.not_refused (changes None e) (stay h.world s (changes None e)) viewed range still k is rises
         (has.listeners ∙ (λ i. map (renewed_met entries (is i).brought (pending (is i).requests)) (h.world).listeners))
-        (has.views ∙ (λ i. map (view_met entries (is i).brought (pending (is i).requests)) (zip (h.world).listeners h.views)))
+        (has.views ∙ (λ i. map (view_heard range entries (is i).brought (pending (is i).requests)) (zip (h.world).listeners h.views)))
     at (Some (Add number query)) e has = listened_viewed law h s has.seat query k d.good.sound d.good.called d.good.reached d.not_refused is rises viewed (bare h.world s (changes (Some (Add number query)) e)) has.more has.still has.adds.listeners has.adds.views
     at (Some (Remove numbers)) e has = left (Remove numbers) e has
     at (Some (Revoke tag)) e has = left (Revoke tag) e has

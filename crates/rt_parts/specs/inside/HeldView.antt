@@ -17,7 +17,7 @@ use Rattle.rt_world.specs.Met.{renewed_met, told_met}
 use Rattle.rt_world.specs.World.{Listener, Reason}
 use Rattle.rt_parts.specs.declared.held.Held.{Held}
 use Rattle.rt_parts.specs.Listeners.{cancelled_note, Listeners}
-use Rattle.rt_parts.specs.Refreshed.{count_met, view_met}
+use Rattle.rt_parts.specs.Refreshed.{count_met, is_supplied_at, renewed_heard, view_heard, view_met}
 use Rattle.rt_parts.specs.Renewed.{count_of, renewed_of, told_of, view_of}
 
 -- what a view shows
@@ -87,6 +87,30 @@ abbrev pub told_at : ℕ → List Assignment → Brought → List Write
 told_at number entries b writes p =
     if p.0.number == number then told_met entries b writes p.0 else None
 
+-- both, where the listener hears of the entries
+abbrev pub refreshed_heard : Option Query → List Assignment → Brought → List Write
+    → Listener × Option View → Listener × Option View
+refreshed_heard range entries b writes p =
+    (renewed_heard range entries b writes p.0, view_heard range entries b writes p)
+
+-- both, of the listeners of these numbers alone
+abbrev pub refreshed_among : List ℕ → List Assignment → Brought → List Write
+    → Listener × Option View → Listener × Option View
+refreshed_among numbers entries b writes p =
+    if list_any (λ n. p.0.number == n) numbers then refreshed entries b writes p else p
+
+-- the three of these
+abbrev pub recounted_among : List ℕ → List Assignment → Brought → List Write
+    → (Listener × Option View) × ℕ → (Listener × Option View) × ℕ
+recounted_among numbers entries b writes t =
+    if list_any (λ n. t.0.0.number == n) numbers then recounted entries b writes t else t
+
+-- and what their seats are told
+abbrev pub told_among : List ℕ → List Assignment → Brought → List Write
+    → Listener × Option View → Option Note
+told_among numbers entries b writes p =
+    if list_any (λ n. p.0.number == n) numbers then told_met entries b writes p.0 else None
+
 -- both renewed for these queries
 abbrev pub renewed_pair : List Query → Brought → List Write
     → Listener × Option View → Listener × Option View
@@ -137,6 +161,12 @@ own_number seat l = if l.seat == seat then Some l.number else None
 abbrev pub HaveForm : Query → List ℕ → List Held → Type 0
 HaveForm listened numbers held =
     All (λ l. list_any (λ n. l.number == n) numbers ≡ query_eq (form l.query) listened) held
+
+-- the numbers are those of the listeners of the range's path that it supplies, and others perhaps, which no
+-- listener has
+abbrev pub HaveSupplied : Query → List ℕ → List Held → Type 0
+HaveSupplied range numbers held =
+    All (λ l. list_any (λ n. l.number == n) numbers ≡ is_supplied_at range l.query) held
 
 -- the note of a listener that ends, if it has that number
 abbrev pub ended_at : ℕ → Reason → Listener → Option Note

@@ -12,8 +12,10 @@ use Rattle.rt_cache.specs.Brought.{Brought}
 use Rattle.rt_view.specs.Views.{View}
 use Rattle.rt_world.specs.Touched.{named_by}
 use Rattle.rt_world.specs.World.{Listener}
+use Rattle.rt_query.specs.Queries.{Query}
+use Rattle.rt_parts.specs.declared.held.Held.{Held}
 use Rattle.rt_parts.specs.declared.places.Place.{Place}
-use Rattle.rt_parts.specs.Refreshed.{FollowsNamed}
+use Rattle.rt_parts.specs.Refreshed.{FollowsNamed, hears}
 
 -- by number, and of one number by the entry
 abbrev pub met_cmp : ℕ × ℕ → ℕ × ℕ → Ordering
@@ -52,3 +54,19 @@ pub record IsDue (entries : List Assignment) (b : Brought) (writes : List Write)
     (met : List (ℕ × ℕ)) (p : Listener × Option View) : Type 0 where
   pub follow : FollowsNamed entries b writes p
   pub own : HasPairs entries met p.0.number p.0.query.path
+
+-- each of the numbers has its pair with each of so many entries
+abbrev pub HaveAll : ℕ → List ℕ → List (ℕ × ℕ) → Type 0
+HaveAll count numbers pairs =
+    (n i : ℕ) → i < count → list_any (λ m. n == m) numbers ≡ true
+    → list_any (λ o. n == o.0 && i == o.1) pairs ≡ true
+
+-- the pairs of entries with the listeners that they are handed to, in order: those that hear of the entries
+pub record AreHanded (range : Option Query) (entries : List Assignment) (pairs : List (ℕ × ℕ))
+    (held : List Held) : Type 0 where
+  pub up : AreUp pairs
+  pub all :
+      All (λ (l : Held). hears range l.query ≡ true
+      → HasPairs entries pairs l.number l.query.path) held
+  pub only :
+      All (λ (l : Held). list_any (λ o. l.number == o.0) pairs ≡ true → hears range l.query ≡ true) held

@@ -1,5 +1,5 @@
 -- Whose windows queries had before a change of the cover, and which of them it moves.
-use Rattle.std.specs.Prelude.{◌≡◌, Bool, false, ◌&&◌, not, List, Some}
+use Rattle.std.specs.Prelude.{◌≡◌, Bool, true, false, ◌&&◌, not, List, Some}
 use Rattle.std.specs.List.{list_any, All}
 use Rattle.std.specs.List.Sorted.{IsSorted}
 use Rattle.std.specs.Option.{option_map_or}
@@ -11,6 +11,7 @@ use Rattle.rt_query.specs.QueryEq.{query_eq}
 use Rattle.rt_query.specs.QueryOrder.{query_cmp}
 use Rattle.rt_cache.specs.Brought.{Brought, source, may_move}
 use Rattle.rt_world.specs.World.{Listener}
+use Rattle.rt_parts.specs.Refreshed.{is_supplied_at}
 use Rattle.rt_sync.specs.declared.steps.moving.Had.{Had}
 
 -- whether one of the forms is of the path
@@ -20,6 +21,10 @@ is_of_path forms p = list_any (λ f. path_eq f.path p) forms
 -- whether one is whose listener's end may move the queries of the path
 abbrev pub may_move_at : Brought → List Query → Path → Bool
 may_move_at b forms p = list_any (λ f. may_move b f && path_eq f.path p) forms
+
+-- whether one is whose listener's end may move the query: it supplies that
+abbrev pub may_move_it : Brought → List Query → Query → Bool
+may_move_it b forms q = list_any (λ f. may_move b f && is_supplied_at f q) forms
 
 -- whether the query has another form's window
 abbrev pub has_others : Brought → Query → Bool
@@ -46,10 +51,14 @@ had_cmp h i = ordering_then (query_cmp h.query i.query) (query_cmp h.source i.so
 abbrev pub had_of : Query → Query → Had
 had_of q f = record { query = q; source = f }
 
--- these are, in order, the queries that are lent a window, of the paths where one of the forms may move others
+-- these are, in order, queries that are lent a window, of the paths where one of the forms may move others;
+-- all of them that one may move are among these
 pub record AreHad (b : Brought) (listeners : List Listener) (forms : List Query) (had : List Had) : Type 0 where
   pub order : IsSorted had_cmp had
-  pub those : (q : Query) → is_had had q ≡ (may_move_at b forms q.path && is_lent b listeners q)
+  pub only : (q : Query) → is_had had q ≡ true
+      → (may_move_at b forms q.path && is_lent b listeners q) ≡ true
+  pub all : (q : Query) → (may_move_it b forms q && is_lent b listeners q) ≡ true
+      → is_had had q ≡ true
   pub sources : HaveSources b had
 
 -- whether a query had the window of that form

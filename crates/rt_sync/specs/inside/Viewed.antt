@@ -12,10 +12,10 @@ use Rattle.rt_world.specs.World.{Listener, World, pending}
 use Rattle.rt_world.specs.After.{listeners_after, renewed}
 use Rattle.rt_world.specs.Covering.{change_by}
 use Rattle.rt_world.specs.Met.{renewed_met}
-use Rattle.rt_world.specs.Touched.{entries_by}
+use Rattle.rt_world.specs.Touched.{entries_by, seen}
 use Rattle.rt_world.specs.laws.Touch.{HasSeen}
 use Rattle.rt_parts.specs.Listeners.{Listeners, counts_left, first_view_of, new_listener, views_left}
-use Rattle.rt_parts.specs.Refreshed.{count_met, view_met}
+use Rattle.rt_parts.specs.Refreshed.{count_heard, hears, view_heard}
 use Rattle.rt_parts.specs.Renewed.{count_of, renewed_of, view_of}
 use Rattle.rt_sync.specs.Core.{Held}
 use Rattle.rt_sync.specs.Reads.{IsCounted, ReadsNamed}
@@ -76,15 +76,24 @@ pub record AddsView (h : Held) (seat : ℕ) (query : Query) (k : Held) : Type 0 
       ≡ h.views ++ first_view_of (k.world).brought (pending (k.world).requests) query ∷ []
   pub counts : (count : ℕ) × (k.counts ≡ h.counts ++ count ∷ [])
 
--- those whose paths an entry meets are renewed, child by child where that is enough
+-- a listener stays as it was, and sees what it saw
+abbrev pub IsStill : World → World → Listener → Type 0
+IsStill w v l =
+    (renewed v.brought (pending v.requests) l ≡ l) × (seen v l.query ≡ seen w l.query)
+
+-- those whose paths an entry meets are renewed, child by child where that is enough; views are where
+-- listeners hear of the entries, and the others are still
 pub record RefreshesViews (h : Held) (entries : List Assignment) (k : Held) : Type 0 where
+  pub range : Option Query
+  pub still : (l : Listener) → Contains (h.world).listeners l → hears range l.query ≡ false
+      → IsStill h.world k.world l
   pub listeners : (k.world).listeners
       ≡ map (renewed_met entries (k.world).brought (pending (k.world).requests)) (h.world).listeners
   pub views : k.views
-      ≡ map (view_met entries (k.world).brought (pending (k.world).requests))
+      ≡ map (view_heard range entries (k.world).brought (pending (k.world).requests))
       (zip (h.world).listeners h.views)
   pub counts : k.counts
-      ≡ map (count_met entries (k.world).brought (pending (k.world).requests))
+      ≡ map (count_heard range entries (k.world).brought (pending (k.world).requests))
       (zip (zip (h.world).listeners h.views) h.counts)
 
 -- those that are left after the step stay; of them the moved ones are renewed, and no others

@@ -99,7 +99,7 @@ impl State {
             unreachable!()
         };
         self.listeners
-            .refresh(entries, &self.brought, pending, &mut notes)?;
+            .refresh(None, entries, &self.brought, pending, &mut notes)?;
         self.given_requests = id;
         Ok(Told {
             given: Some(id),

@@ -1,6 +1,6 @@
 // Which queries a change of the cover moves: those that had another form's window, and have one now that
 // doesn't come from it.
-ghost use Rattle.std.specs.Prelude.{◌≡◌, ◌≤◌, ◌&&◌, ◌||◌, true, false, length, IfOk, OnOk};
+ghost use Rattle.std.specs.Prelude.{◌≡◌, ◌≤◌, ◌&&◌, ◌||◌, Bool, true, false, length, IfOk, OnOk};
 ghost use Rattle.std.specs.List.{list_any};
 ghost use Rattle.std.specs.List.Sorted.{IsPartitionPoint, IsSorted};
 ghost use Rattle.std.specs.Ordering.{is_lt};
@@ -9,8 +9,9 @@ ghost use Rattle.rt_query.specs.Queries.{Query};
 ghost use Rattle.rt_query.specs.QueryEq.{query_eq};
 ghost use Rattle.rt_cache.specs.Brought.{Brought as Known, may_move};
 ghost use Rattle.rt_cache.specs.Recover.{is_among};
+ghost use Rattle.rt_parts.specs.Refreshed.{is_supplied_at};
 ghost use Rattle.rt_parts.specs.Renewed.{is_listened_at};
-ghost use Rattle.rt_sync.specs.inside.Moving.{is_of_path, may_move_at, has_others, is_lent, is_had};
+ghost use Rattle.rt_sync.specs.inside.Moving.{is_of_path, has_others, is_lent, is_had};
 ghost use Rattle.rt_sync.specs.inside.Moving.{HaveSources, AreHad, has_come, had_cmp, had_of};
 ghost use Rattle.rt_sync.specs.inside.Moving.{is_moved_now};
 ghost use Rattle.rt_sync.specs.inside.Moving.{is_moved_among};
@@ -33,8 +34,8 @@ pub(crate) struct Had {
 
 // Adds the form, if its listener's end may move others.
 fn push_mover(movers: &mut Vec<Query>, brought: &Brought, form: &Query) -> Result<(), AllocError>
-    ensures { OnOk result ((p : Path) → is_of_path movers.new.items p
-        ≡ (is_of_path movers.old.items p || (may_move brought.now form.now && path_eq form.now.path p))) }
+    ensures { OnOk result ((t : Query → Bool) → list_any t movers.new.items
+        ≡ (list_any t movers.old.items || (may_move brought.now form.now && t form.now))) }
 {
     if !brought.may_move(form) {
         return Ok(());
@@ -43,25 +44,24 @@ fn push_mover(movers: &mut Vec<Query>, brought: &Brought, form: &Query) -> Resul
     Ok(())
 }
 
+// Of the forms whose listeners end those that may move others.
+fn movers(alloc: Global, brought: &Brought, ended: &[Query]) -> Result<Vec<Query>, AllocError>
+    ensures { IfOk result (λ movers. (t : Query → Bool) → list_any t movers.items
+        ≡ list_any (λ f. may_move brought.now f && t f) ended.now) }
+{
+    let mut movers = Vec::new(alloc);
+    for form in ended {
+        push_mover(&mut movers, brought, form)?;
+    }
+    Ok(movers)
+}
+
 // Of forms of one path all but one go.
 fn take_one_of_each_path(forms: &mut Vec<Query>)
     ensures { (p : Path) → is_of_path forms.new.items p ≡ is_of_path forms.old.items p }
 {
     forms.sort_unstable_by(|one, other| one.path().cmp(other.path()));
     forms.dedup_by(|one, other| one.path() == other.path());
-}
-
-// Of the forms whose listeners end those that may move others, one of each path.
-fn movers(alloc: Global, brought: &Brought, ended: &[Query]) -> Result<Vec<Query>, AllocError>
-    ensures { IfOk result (λ movers. (p : Path) → is_of_path movers.items p
-        ≡ may_move_at brought.now ended.now p) }
-{
-    let mut movers = Vec::new(alloc);
-    for form in ended {
-        push_mover(&mut movers, brought, form)?;
-    }
-    take_one_of_each_path(&mut movers);
-    Ok(movers)
 }
 
 // ---- what queries had
@@ -134,6 +134,44 @@ fn had_at(
     Ok(had)
 }
 
+// Those that the form supplies: by the end of its listeners alone no others are moved.
+fn had_supplied(
+    alloc: Global,
+    brought: &Brought,
+    listeners: &Listeners,
+    form: &Query,
+) -> Result<Vec<Had>, AllocError>
+    ensures those { IfOk result (λ had. (q : Query) → is_had had.items q
+        ≡ (is_supplied_at form.now q && is_lent brought.now listeners.now.listeners q)) }
+    ensures sources { IfOk result (λ had. HaveSources brought.now had.items) }
+{
+    let queries = listeners.queries_supplied(alloc, form)?;
+    let mut had = Vec::new(alloc);
+    push_all(&mut had, brought, &queries)?;
+    Ok(had)
+}
+
+// Those that one of these forms supplies, and perhaps others of their paths: of one form alone just those that
+// it supplies, and of several all of their paths, each path once.
+fn had_of(
+    alloc: Global,
+    brought: &Brought,
+    listeners: &Listeners,
+    mut forms: Vec<Query>,
+) -> Result<Vec<Had>, AllocError>
+    ensures only { IfOk result (λ had. (q : Query) → is_had had.items q ≡ true
+        → (is_of_path forms.items q.path && is_lent brought.now listeners.now.listeners q) ≡ true) }
+    ensures all { IfOk result (λ had. (q : Query) → (list_any (λ f. is_supplied_at f q) forms.items
+        && is_lent brought.now listeners.now.listeners q) ≡ true → is_had had.items q ≡ true) }
+    ensures sources { IfOk result (λ had. HaveSources brought.now had.items) }
+{
+    if forms.len() == 1 {
+        return had_supplied(alloc, brought, listeners, &forms[0]);
+    }
+    take_one_of_each_path(&mut forms);
+    had_at(alloc, brought, listeners, &forms)
+}
+
 // The order of two: by query, then by source.
 fn had_order(one: &Had, other: &Had) -> Ordering
     ensures { result ≡ had_cmp one.now other.now }
@@ -150,8 +188,9 @@ fn sort_had(had: &mut Vec<Had>)
     had.sort_unstable_by(|one, other| had_order(one, other));
 }
 
-// What may be moved where listeners of these forms end, in order: the queries that have another form's
-// window, at the paths of those forms that may move others. No other path is looked at.
+// What may be moved where listeners of these forms end, in order: queries that have another form's window, at the
+// paths of those forms that may move others, and all of them that one of these supplies. No other path is
+// looked at.
 pub(crate) fn had_beside(
     alloc: Global,
     brought: &Brought,
@@ -161,7 +200,7 @@ pub(crate) fn had_beside(
     ensures { IfOk result (λ had. AreHad brought.now listeners.now.listeners ended.now had.items) }
 {
     let movers = movers(alloc, brought, ended)?;
-    let mut had = had_at(alloc, brought, listeners, &movers)?;
+    let mut had = had_of(alloc, brought, listeners, movers)?;
     sort_had(&mut had);
     Ok(had)
 }

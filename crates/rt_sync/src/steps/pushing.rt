@@ -2,7 +2,7 @@
 ghost use Rattle.std.specs.Prelude.{◌≡◌, ◌↔◌, ◌==◌, ◌∷◌, [], not, true, Some, IfOk, IsTrue, OnOk, map};
 ghost use Rattle.std.specs.List.{All, IsDistinct, fold, list_all, list_any};
 ghost use Rattle.std.specs.List.Sorted.{IsNonDecreasing, IsPermutation};
-ghost use Rattle.std.specs.Option.{option_copied, option_map, option_map_or};
+ghost use Rattle.std.specs.Option.{option_and_then, option_copied, option_map, option_map_or};
 ghost use Rattle.rt_tree.specs.PathTree.{PathTree};
 ghost use Rattle.rt_tree.specs.Assignments.{is_at_or_above};
 ghost use Rattle.rt_query.specs.Queries.{Query};
@@ -14,6 +14,7 @@ ghost use Rattle.rt_world.specs.steps.Kind.{stands_too_deep};
 ghost use Rattle.rt_world.specs.steps.Pushing.{has_tag_twice, is_bad_part, is_idle, is_no_merge};
 ghost use Rattle.rt_world.specs.steps.Pushing.{is_no_push, is_within_listen};
 ghost use Rattle.rt_world.specs.laws.Made.{IsPushOn};
+ghost use Rattle.rt_sync.specs.inside.Pushed.{only_range, range_of};
 
 use crate::state::State;
 use crate::told::Told;
@@ -22,7 +23,7 @@ use rt_cover::Cover;
 use rt_query::Query;
 use rt_tree::{Path, Tree};
 use rt_wire::{Part, Parts, some_stands_too_deep, stands_too_deep};
-use rt_world::{CoreError, brought_law, push_law, pushed_law, stay_law, touch_law};
+use rt_world::{CoreError, brought_law, note_law, push_law, pushed_law, stay_law, touch_law};
 use rt_writes::Entries;
 use std::alloc::{AllocError, Global};
 
@@ -113,6 +114,31 @@ fn put_parts(brought: &mut Brought, cover: &Cover, parts: &[Part]) -> Result<(),
         put_on(brought, cover, part.tag(), part.entries().as_slice())?;
     }
     Ok(())
+}
+
+// The range that is listened to under the tag, if it is one.
+fn range_at<'a>(cover: &'a Cover, tag: u64) -> Option<&'a Query>
+    ensures { option_copied result ≡ option_and_then range_of
+        (option_map (λ k. k.form) (listen_at cover.now tag)) }
+{
+    let Some(form) = cover.form_at(tag) else {
+        return None;
+    };
+    if form.is_filtered() {
+        return Some(form);
+    }
+    None
+}
+
+// The range on whose listen all is pushed, if it is one part on one.
+fn only_range<'a>(cover: &'a Cover, parts: &[Part]) -> Option<&'a Query>
+    ensures { option_copied result ≡ only_range cover.now parts.now }
+{
+    match parts {
+        [] => None,
+        [part] => range_at(cover, part.tag()),
+        [_, _, ..] => None,
+    }
 }
 
 // The entries of all parts, in order.
@@ -343,24 +369,27 @@ impl State {
             .all(|part| self.is_idle(part.tag(), part.entries()))
     }
 
-    // Parts are pushed, each on the listen with its tag: they show together.
+    // Parts are pushed, each on the listen with its tag: they show together. What is pushed on a range alone
+    // shows where that supplies.
     pub(crate) fn take_push(&mut self, parts: Parts) -> Result<Told, AllocError>
         requires { IsReady self.old (Step.Push parts) }
         ensures { IfOk result (λ told. Makes self.old (Step.Push parts) self.new told) }
     {
-        // For the prover: what such a step leaves, and what may be pushed.
+        // For the prover: what such a step leaves, what may be pushed, and whom nothing is told.
         push_law();
         pushed_law();
         stay_law();
         brought_law();
         touch_law();
+        note_law();
         let alloc = self.alloc();
         put_parts(&mut self.brought, &self.cover, parts.as_slice())?;
+        let range = only_range(&self.cover, parts.as_slice());
         let entries = entries_pushed(alloc, parts)?;
         let mut notes = Vec::new(alloc);
         let pending = self.requests.pending();
         self.listeners
-            .refresh(&entries, &self.brought, pending, &mut notes)?;
+            .refresh(range, &entries, &self.brought, pending, &mut notes)?;
         Ok(Told { given: None, notes })
     }
 

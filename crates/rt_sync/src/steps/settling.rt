@@ -89,7 +89,7 @@ impl State {
         let pending = self.requests.pending();
         let entries = settled.entries.as_slice();
         self.listeners
-            .refresh(entries, &self.brought, pending, &mut notes)?;
+            .refresh(None, entries, &self.brought, pending, &mut notes)?;
         Ok(Told { given: None, notes })
     }
 }

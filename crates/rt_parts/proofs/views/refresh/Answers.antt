@@ -1,8 +1,8 @@
 use Rattle.std.proofs.Common.{◌≡◌, ◌<◌, ◌≤◌, ◌++◌, [], ℕ, List, length, drop, map, rules, ap, sym, refl, ◌∙◌, append-nil}
 use Rattle.rt_world.specs.declared.report.Note.{Note}
 use Rattle.rt_parts.specs.inside.HeldView.{counted_of, pair_of, refreshed}
-use Rattle.rt_parts.proofs.Counts.{Counted, counts_in, counts_in_all, counts_step, none_in}
-use Rattle.rt_parts.proofs.RefreshLaws.{due_at, due_more, drop_past, left_all, left_more, left_of, met, met_pairs, none_left, none_told, number_stays, Pair, pairs_up, told_all, told_left, told_more, unmet}
+use Rattle.rt_parts.proofs.Counts.{Counted, counts_in, counts_step, none_in}
+use Rattle.rt_parts.proofs.RefreshLaws.{due_at, due_more, drop_past, left_more, left_of, met, none_left, none_told, number_stays, Pair, pairs_up, told_left, told_more}
 use Rattle.rt_parts.proofs.views.refresh.Goals as goal
 
 pub loop-number-init : goal.loop-number-init
@@ -11,7 +11,7 @@ loop-number-init c = record {
   notes = refl;
   counts = refl;
   held = c.requires.held;
-  due = λ k d lt e. record { follow = c.requires.follow k d lt; own = c.requires.own k d lt };
+  due = c.requires.due;
 }
 
 pub refresh_number-requires-clause-due : goal.refresh_number-requires-clause-due
@@ -46,7 +46,6 @@ returns-clause-pairs c =
     sym (none_left c.args.entries.now c.args.brought.now c.args.pending.now ps)
     ∙ ap (λ (ns : List ℕ). left_of c.args.entries.now c.args.brought.now c.args.pending.now ns ps) (sym (drop_past c.loop-number.number-index c.args.numbers.now past))
     ∙ c.loop-number.invariant.pairs
-    ∙ left_all c.args.entries.now c.args.brought.now c.args.pending.now c.args.numbers.now c.args.listeners.now c.requires.numbers
 
 pub returns-clause-notes : goal.returns-clause-notes
 returns-clause-notes c =
@@ -57,7 +56,6 @@ returns-clause-notes c =
     ∙ none_told c.args.entries.now c.args.brought.now c.args.pending.now ps in
     sym (ap (λ (z : List Note). c.loop-number.notes.items ++ z) none ∙ append-nil c.loop-number.notes.items)
     ∙ c.loop-number.invariant.notes
-    ∙ ap (λ (z : List Note). c.args.notes.now.items ++ z) (told_all c.args.entries.now c.args.brought.now c.args.pending.now c.args.numbers.now c.args.listeners.now c.requires.numbers)
 
 pub returns-clause-counts : goal.returns-clause-counts
 returns-clause-counts c =
@@ -66,4 +64,3 @@ returns-clause-counts c =
     sym (none_in (refreshed c.args.entries.now c.args.brought.now c.args.pending.now) (met c.args.entries.now c.args.brought.now c.args.pending.now) ts)
     ∙ ap (λ (ns : List ℕ). counts_in (refreshed c.args.entries.now c.args.brought.now c.args.pending.now) (met c.args.entries.now c.args.brought.now c.args.pending.now) ns ts) (sym (drop_past c.loop-number.number-index c.args.numbers.now past))
     ∙ c.loop-number.invariant.counts
-    ∙ counts_in_all (refreshed c.args.entries.now c.args.brought.now c.args.pending.now) (met c.args.entries.now c.args.brought.now c.args.pending.now) (unmet c.args.entries.now c.args.brought.now c.args.pending.now) c.args.numbers.now c.args.listeners.now (met_pairs c.args.entries.now c.args.brought.now c.args.pending.now c.args.numbers.now c.args.listeners.now c.requires.numbers)

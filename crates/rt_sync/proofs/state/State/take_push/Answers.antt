@@ -1,19 +1,26 @@
-use Rattle.std.proofs.Common.{◌≡◌, ◌++◌, true, List, map, sym, ap, subst, ◌∙◌, refl, slice_index_or, Some}
-use Rattle.std.specs.List.{All, fold}
-use Rattle.std.specs.Option.{option_map, option_map_or}
+use Rattle.std.proofs.Common.{◌≡◌, ◌++◌, true, false, List, Option, map, sym, ap, subst, ◌∙◌, refl, slice_index_or, Some}
+use Rattle.std.specs.List.{All, Contains, fold}
+use Rattle.std.specs.Option.{option_copied, option_map, option_map_or}
 use Rattle.rt_query.specs.Queries.{Query}
-use Rattle.rt_cache.specs.Brought.{Brought, may_put, push}
+use Rattle.rt_tree.specs.Assignments.{Assignment}
+use Rattle.rt_writes.specs.Writes.{Write}
+use Rattle.rt_cache.specs.Brought.{Brought, base, may_put, push}
 use Rattle.rt_cover.specs.Cover.{Tagged}
 use Rattle.rt_cover.specs.State.{listen_at}
 use Rattle.rt_world.specs.declared.step.Step.{Step}
 use Rattle.rt_world.specs.steps.Kind.{Part}
-use Rattle.rt_world.specs.World.{World, pending, listen_of}
+use Rattle.rt_world.specs.World.{Listener, World, pending, listen_of}
+use Rattle.rt_world.specs.After.{renewed}
+use Rattle.rt_world.specs.Views.{seen_over}
 use Rattle.rt_world.specs.Touched.{entries_pushed}
 use Rattle.rt_world.specs.Met.{all_told, renewed_met}
+use Rattle.rt_parts.specs.Refreshed.{hears}
 use Rattle.rt_world.specs.laws.Made.{IsPartOn}
 use Rattle.rt_sync.specs.declared.state.State.{State}
+use Rattle.rt_sync.specs.inside.Pushed.{only_range}
 use Rattle.rt_sync.specs.inside.StateView.{held_of, world_of}
-use Rattle.rt_sync.proofs.NextWorlds.{push_made, refreshes, tied_after}
+use Rattle.rt_sync.proofs.NextWorlds.{push_made, refreshes_heard, tied_after}
+use Rattle.rt_sync.proofs.Unheard.{heard_all, still_renewed, told_heard_all, unheard_base}
 use Rattle.rt_sync.proofs.Viewed.{TouchLaws, follows_at}
 use Rattle.rt_sync.proofs.state.State.take_push.Goals as goal
 
@@ -45,14 +52,31 @@ refresh-requires c =
 pub returns : goal.returns
 returns c =
     let state : State = c.args.self.now in
-    let brought = c.put_parts.new.brought in
-    let pend : c.pending-pending.result.now ≡ pending state.requests = c.pending-pending.ensures in
-    let entries : c.deref.result.now ≡ entries_pushed c.args.parts = c.deref.ensures.value ∙ c.in_ok-entries.ensures in
+    let w : World = world_of state in
+    let brought : Brought = c.put_parts.new.brought in
+    let ws : List Write = c.pending-pending.result.now in
+    let es : List Assignment = c.deref.result.now in
+    let range : Option Query = option_copied c.only_range-range.result in
+    let pend : ws ≡ pending state.requests = c.pending-pending.ensures in
+    let entries : es ≡ entries_pushed c.args.parts = c.deref.ensures.value ∙ c.in_ok-entries.ensures in
     let is = c.in_ok-put_parts.ensures ∙ ap (λ (parts : List Part). fold (λ (x : Brought) (p : Part). option_map_or (λ q. fold (push q) x p.1) (option_map (λ (k : Tagged). k.form) (listen_at state.cover p.0)) x) state.brought parts) c.as_slice.ensures in
+    let ranged : range ≡ only_range state.cover c.args.parts = c.only_range-range.ensures ∙ ap (only_range state.cover) c.as_slice-2.ensures in
+    let same : (l : Listener) → hears range l.query ≡ false → base brought l.query ≡ base state.brought l.query =
+    λ l e. ap (λ x. base x l.query) is ∙ unheard_base state.cover state.brought c.args.parts l.query (ap (λ r. hears r l.query) (sym ranged) ∙ e) in
+    let still : (l : Listener) → Contains w.listeners l → hears range l.query ≡ false → renewed brought ws l ≡ l =
+    λ l there e. still_renewed w c.requires.due.good.sound c.note_law.ensures.still brought ws pend l there (same l e) in
+    let listeners = c.in_ok-refresh.ensures.listeners ∙ heard_all w c.requires.due.good.sound c.note_law.ensures.still brought ws pend es range still in
     record {
-      tied = tied_after state c.stay_law.ensures.renewed c.requires.tied c.deref.result.now brought c.pending-pending.result.now _ refl c.in_ok-refresh.ensures.listeners;
-      next = push_made state c.push_law.ensures c.args.parts c.requires.due brought is c.deref.result.now entries c.refresh.new.self.listeners
-          (c.in_ok-refresh.ensures.listeners ∙ (λ i. map (renewed_met c.deref.result.now brought (pend i)) state.listeners.listeners)) _ refl
-          (c.in_ok-refresh.ensures.notes ∙ (λ i. c.new-notes.ensures.items i ++ all_told c.deref.result.now brought (pend i) state.listeners.listeners));
-      views = refreshes (held_of state) _ c.deref.result.now (entries_pushed c.args.parts) entries c.pending-pending.result.now pend c.in_ok-refresh.ensures.listeners c.in_ok-refresh.ensures.views c.in_ok-refresh.ensures.counts;
+      tied = tied_after state c.stay_law.ensures.renewed c.requires.tied es brought ws _ refl listeners;
+      next = push_made state c.push_law.ensures c.args.parts c.requires.due brought is es entries c.refresh.new.self.listeners
+          (listeners ∙ (λ i. map (renewed_met es brought (pend i)) state.listeners.listeners)) _ refl
+          (c.in_ok-refresh.ensures.notes
+          ∙ (λ i. c.new-notes.ensures.items i ++ told_heard_all w c.requires.due.good.sound c.note_law.ensures.still brought ws pend es range still i)
+          ∙ (λ i. all_told es brought (pend i) state.listeners.listeners));
+      views = refreshes_heard (held_of state) _ range
+          (λ l there e. (
+            still_renewed w c.requires.due.good.sound c.note_law.ensures.still brought (pending state.requests) refl l there (same l e),
+            λ i. seen_over (same l e i) (pending state.requests) l.query,
+          ))
+          es (entries_pushed c.args.parts) entries ws pend listeners c.in_ok-refresh.ensures.views c.in_ok-refresh.ensures.counts;
     }
