@@ -9,5 +9,7 @@ pub mod Paces
 pub mod Places
 pub mod Replays
 pub mod Requests
+pub mod Rests
 pub mod Silences
+pub mod Sites
 pub mod Sockets

@@ -244,6 +244,8 @@ fn lets_in(fault: Fault) -> bool
         Fault::Host | Fault::Page => false,
         Fault::NotFound
         | Fault::Method
+        | Fault::ReadOnly
+        | Fault::FileTooLarge
         | Fault::Lacks(_)
         | Fault::PathNoText
         | Fault::Path(_)

@@ -1,6 +1,16 @@
 // One that asks by plain HTTP: its stream, its requests, and what it is answered.
-ghost use Rattle.std.specs.Prelude.{◌≡◌};
-ghost use Rattle.rt_emulate.specs.inside.Requests.{awaited_of, rung, stopped_of};
+ghost use Rattle.std.specs.Prelude.{◌≡◌, ◌++◌, [], None, false, nat_lt, length, codes, IfOk, OnOk};
+ghost use Rattle.std.specs.Prelude.{option_map, string_bytes};
+ghost use Rattle.tungstenite.specs.declared.error.Error.TheVariants as error;
+ghost use Rattle.rt_files.specs.Kinds.{media_type_of};
+ghost use Rattle.rt_http.specs.Answers.{file_head};
+ghost use Rattle.rt_http.specs.Incomings.{new_incoming};
+ghost use Rattle.rt_emulate.specs.declared.asking.Next.TheVariants as step;
+ghost use Rattle.rt_emulate.specs.inside.Endings.{broken_of};
+ghost use Rattle.rt_emulate.specs.inside.Requests.{IsRefused, IsUpgrade, answered, awaited_of, is_in_head, rung, settled};
+ghost use Rattle.rt_emulate.specs.inside.Requests.{stopped_of, stuck_of, unheard_of};
+ghost use Rattle.rt_emulate.specs.inside.Rests.{left_for};
+ghost use Rattle.rt_emulate.specs.inside.Sites.{is_bare};
 
 use crate::asked::{Reply, answer_to, page_of, prepare, put_reply, wished};
 use crate::broken::Broken;
@@ -11,16 +21,22 @@ use crate::keys::Keys;
 use crate::pace::Awaited;
 use crate::page::page_at;
 use crate::replay::Replay;
+use crate::rest::Rest;
+use crate::site::{Course, Found, Site, course_of};
 use crate::socket::TURN_BYTES;
 use mio::net::TcpStream;
+use rt_files::media_type;
 use rt_http::{
-    GO_ON, Incoming, Marks, Method, Refusal, Status, Turn, handshake_len, put_answer, refusal_text,
+    Fault, GO_ON, Incoming, Marks, Method, Refusal, Status, Turn, handshake_len, put_answer,
+    put_file_head, refusal_text,
 };
 use rt_hub::{Hub, MAX_WAITING_BYTES};
 use std::alloc::{AllocError, Global};
+use std::fs::File;
 use std::io;
 use std::io::{Read, Write};
 use std::net::Shutdown;
+use std::rt::Files;
 use tungstenite::Error;
 
 // How many bytes one read of a stream asks for.
@@ -35,6 +51,8 @@ const DROPPED_BYTES: usize = 16 * TURN_BYTES;
 pub(crate) enum Next {
     /// It goes on at once.
     Again,
+    /// It goes on in its next turn.
+    Pause,
     /// It waits until its stream gives or takes something.
     Idle,
     /// Its request is answered.
@@ -53,6 +71,8 @@ pub(crate) struct Asking {
     // What it is answered, and how many of these bytes are written.
     out: Vec<u8>,
     written: usize,
+    // What is left of the file that it is answered with.
+    rest: Option<Rest>,
     // Whether a request was answered.
     has_asked: bool,
     // How many bytes are read on, where it is answered for the last time.
@@ -70,6 +90,7 @@ impl Drop for Asking {
             incoming: _,
             out: _,
             written: _,
+            rest: _,
             has_asked: _,
             left: _,
             since: _,
@@ -80,13 +101,28 @@ impl Drop for Asking {
 
 impl Asking {
     /// One that comes now.
-    pub(crate) fn new(alloc: Global, stream: TcpStream, now: u64) -> Asking {
+    pub(crate) fn new(alloc: Global, stream: TcpStream, now: u64) -> Asking
+        ensures bytes { (result.incoming ≡ new_incoming MAX_WAITING_BYTES) × (result.out.items ≡ []) }
+        ensures rest { result ≡ record {
+          alloc = alloc;
+          stream = stream;
+          incoming = result.incoming;
+          out = result.out;
+          written = 0;
+          rest = None;
+          has_asked = false;
+          left = None;
+          since = now;
+          has_moved = false;
+        } }
+    {
         Asking {
             alloc,
             stream,
             incoming: Incoming::new(alloc, MAX_WAITING_BYTES),
             out: Vec::new(alloc),
             written: 0,
+            rest: None,
             has_asked: false,
             left: None,
             since: now,
@@ -98,6 +134,9 @@ impl Asking {
     pub(crate) fn next(&mut self) -> Result<Next, Halt> {
         if self.written < self.out.len() {
             return Ok(self.write_on());
+        }
+        if self.rest.is_some() {
+            return Ok(self.read_piece());
         }
         if let Some(left) = self.left {
             return Ok(self.read_on(left));
@@ -125,6 +164,25 @@ impl Asking {
                     self.written = 0;
                 }
                 Next::Again
+            }
+            Err(why) => stuck(why),
+        }
+    }
+
+    // Reads the next piece of the file that it is answered with, which is written in its next turn: so a
+    // long file holds nobody up. It goes where the file has grown shorter, since its head has said how
+    // long it is.
+    fn read_piece(&mut self) -> Next {
+        let Some(rest) = &mut self.rest else {
+            return Next::Again;
+        };
+        match rest.put_piece(&mut self.out) {
+            Ok(0) => Next::Ends(Ending::Answered),
+            Ok(_) => {
+                if rest.is_over() {
+                    self.rest = None;
+                }
+                Next::Pause
             }
             Err(why) => stuck(why),
         }
@@ -163,7 +221,9 @@ impl Asking {
     }
 
     // A read of it failed so.
-    fn unheard(&self, why: io::Error) -> Next {
+    fn unheard(&self, why: io::Error) -> Next
+        ensures { result ≡ unheard_of self.now.has_asked (broken_of (error.Io why)) }
+    {
         match stuck(why) {
             Next::Ends(Ending::Failed(why)) => Next::Ends(stream_ending(self.has_asked, why)),
             next => next,
@@ -171,18 +231,26 @@ impl Asking {
     }
 
     // Whether a part of a head has come, and no more.
-    fn is_in_head(&self) -> bool {
+    fn is_in_head(&self) -> bool
+        ensures { result ≡ is_in_head self.now.incoming }
+    {
         self.incoming.request().is_none() && !self.incoming.bytes().is_empty()
     }
 
     // It is told to send the body of its request.
-    fn go_on(&mut self) -> Result<Next, Halt> {
+    fn go_on(&mut self) -> Result<Next, Halt>
+        ensures { IfOk result (λ next. (next ≡ step.Again)
+            × (self.new.out.items ≡ self.old.out.items ++ codes "HTTP/1.1 100 Continue\r\n\r\n")
+            × (self.new ≡ record (self.old) { out = self.new.out })) }
+    {
         self.out.extend_from_slice(GO_ON.as_bytes())?;
         Ok(Next::Again)
     }
 
     // Its head is to be one of a handshake.
-    fn upgrade(&mut self) -> Result<Next, Halt> {
+    fn upgrade(&mut self) -> Result<Next, Halt>
+        ensures { IfOk result (λ next. IsUpgrade self.old next self.new) }
+    {
         match handshake_len(self.incoming.bytes()) {
             Ok(size) => Ok(Next::Upgrade(size)),
             Err(refusal) => self.refuse(refusal),
@@ -190,7 +258,9 @@ impl Asking {
     }
 
     // What it sent is refused, and it is answered for the last time.
-    fn refuse(&mut self, refusal: Refusal) -> Result<Next, Halt> {
+    fn refuse(&mut self, refusal: Refusal) -> Result<Next, Halt>
+        ensures { IfOk result (λ next. (next ≡ step.Again) × IsRefused refusal self.old self.new) }
+    {
         let text = refusal_text(self.alloc, refusal)?;
         put_answer(
             &mut self.out,
@@ -205,7 +275,9 @@ impl Asking {
     }
 
     // It is answered, and goes on or not.
-    fn is_answered(&mut self, is_kept: bool) {
+    fn is_answered(&mut self, is_kept: bool)
+        ensures { self.new ≡ answered is_kept self.old }
+    {
         self.has_asked = true;
         self.has_moved = true;
         if !is_kept {
@@ -244,7 +316,7 @@ impl Asking {
 
     // Puts what its request is answered.
     fn put(&mut self, marks: Marks, reply: &Reply) -> Result<(), AllocError> {
-        let is_bare = matches!(marks.method, Method::Head);
+        let is_bare = is_bare(marks.method);
         let origin = match self.incoming.request() {
             Some(request) => request.origin(),
             None => None,
@@ -260,9 +332,57 @@ impl Asking {
         )
     }
 
-    /// Answers its request, which is whole. What is accepted is kept before.
-    pub(crate) fn answer(
+    // Puts why its request isn't done.
+    fn put_fault(&mut self, marks: Marks, fault: Fault) -> Result<(), AllocError> {
+        let reply = Err(fault);
+        self.put(marks, &reply)
+    }
+
+    // Puts the head of a file, of which it is sent the bytes behind it, where it asks for more than the
+    // head.
+    fn put_file(&mut self, marks: Marks, found: Found) -> Result<(), AllocError>
+        ensures head { OnOk result (self.new.out.items ≡ self.old.out.items
+            ++ file_head (media_type_of (string_bytes found.name)) found.size marks.is_kept) }
+        ensures rest { OnOk result
+            (option_map (λ rest. rest.left) self.new.rest ≡ left_for (is_bare marks.method) found.size) }
+    {
+        let Found { file, size, name } = found;
+        put_file_head(
+            &mut self.out,
+            media_type(name.as_str()),
+            size,
+            marks.is_kept,
+        )?;
+        self.rest = Rest::of(file, size, is_bare(marks.method));
+        Ok(())
+    }
+
+    // The file that its request names.
+    fn file<Y: Files<File = File>>(&self, system: &Y, site: &Site) -> Result<Found, Fault> {
+        match self.incoming.request() {
+            Some(request) => site.find(system, self.alloc, request.target()),
+            None => Err(Fault::NotFound),
+        }
+    }
+
+    // Puts the file that its request names, or why there is none.
+    fn put_named<Y: Files<File = File>>(
         &mut self,
+        system: &Y,
+        site: &Site,
+        marks: Marks,
+    ) -> Result<(), AllocError> {
+        match self.file(system, site) {
+            Ok(found) => self.put_file(marks, found),
+            Err(fault) => self.put_fault(marks, fault),
+        }
+    }
+
+    /// Answers its request, which is whole. What is accepted is kept before.
+    pub(crate) fn answer<Y: Files<File = File>>(
+        &mut self,
+        system: &Y,
+        site: &Site,
         hub: &mut Hub,
         keeper: &mut Keeper,
         told: &mut Vec<u64>,
@@ -274,19 +394,27 @@ impl Asking {
             return Ok(());
         };
         keeper.append()?;
-        self.put(marks, &reply)?;
+        match course_of(site.does_serve(), marks.method, &reply) {
+            Course::Told => self.put(marks, &reply)?,
+            Course::File => self.put_named(system, site, marks)?,
+            Course::ReadOnly => self.put_fault(marks, Fault::ReadOnly)?,
+        }
         self.is_answered(marks.is_kept);
         self.incoming.end_request();
         Ok(())
     }
 
     /// Whether more is answered than one turn is to hold others up for.
-    pub(crate) fn is_long(&self) -> bool {
+    pub(crate) fn is_long(&self) -> bool
+        ensures { result ≡ nat_lt TURN_BYTES (length self.now.out.items) }
+    {
         self.out.len() > TURN_BYTES
     }
 
     /// Its turn is over.
-    pub(crate) fn settle(&mut self, now: u64) {
+    pub(crate) fn settle(&mut self, now: u64)
+        ensures { self.new ≡ settled now self.old }
+    {
         if self.has_moved {
             self.since = now;
             self.has_moved = false;
@@ -297,7 +425,7 @@ impl Asking {
     fn awaited(&self) -> Awaited
         ensures { result ≡ awaited_of self.now }
     {
-        if self.written < self.out.len() {
+        if self.written < self.out.len() || self.rest.is_some() {
             Awaited::Taking
         } else if self.left.is_some() {
             Awaited::Leaving
@@ -331,13 +459,17 @@ impl Asking {
     }
 
     /// Its stream, of which what it sent is read again, from a head on that has so many bytes.
-    pub(crate) fn into_replay(self, size: usize) -> Result<Replay, AllocError> {
+    pub(crate) fn into_replay(self, size: usize) -> Result<Replay, AllocError>
+        ensures { IfOk result (λ r. (r.first.items ≡ self.incoming.bytes)
+            × (r ≡ record { first = r.first; at = 0; end = size; stream = self.stream })) }
+    {
         let Asking {
             alloc,
             stream,
             incoming,
             out: _,
             written: _,
+            rest: _,
             has_asked: _,
             left: _,
             since: _,
@@ -348,8 +480,17 @@ impl Asking {
     }
 }
 
+// Whether the head of an answer alone is asked for.
+fn is_bare(method: Method) -> bool
+    ensures { result ≡ is_bare method }
+{
+    matches!(method, Method::Head)
+}
+
 // A stream gives or takes nothing now, for that reason.
-fn stuck(why: io::Error) -> Next {
+fn stuck(why: io::Error) -> Next
+    ensures { result ≡ stuck_of (broken_of (error.Io why)) }
+{
     let why = Broken::of(Error::Io(why));
     if why.would_block() {
         Next::Idle

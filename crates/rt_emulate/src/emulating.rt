@@ -18,6 +18,8 @@ pub struct Emulating {
     pub(crate) is_synced: bool,
     pub(crate) denied: Vec<Path>,
     pub(crate) origins: Vec<String>,
+    pub(crate) public: Option<String>,
+    pub(crate) page: Option<String>,
 }
 
 impl Drop for Emulating {
@@ -32,6 +34,8 @@ impl Drop for Emulating {
             is_synced: _,
             denied: _,
             origins: _,
+            public: _,
+            page: _,
         } = self;
     }
 }
@@ -52,6 +56,8 @@ impl Model for Emulating {
       is_synced = e.is_synced;
       denied = e.denied.items;
       origins = map string_bytes e.origins.items;
+      public = option_map string_bytes e.public;
+      page = option_map string_bytes e.page;
     } };
 }
 
@@ -80,6 +86,8 @@ impl Emulating {
           is_synced = is_synced;
           denied = denied.items;
           origins = map string_bytes origins.items;
+          public = None;
+          page = None;
         } }
     {
         Emulating {
@@ -92,6 +100,8 @@ impl Emulating {
             is_synced,
             denied,
             origins,
+            public: None,
+            page: None,
         }
     }
 
@@ -112,6 +122,20 @@ impl Emulating {
         self
     }
 
+    /// The files of these folders are served too, by plain HTTP, where such are given: those of an
+    /// application, and behind them those of the tree's page, of which `examples/tree/index.html` is at
+    /// `/`.
+    pub fn serving(mut self, public: Option<String>, page: Option<String>) -> Emulating
+        ensures { result ≡ record self {
+          public = option_map string_bytes public;
+          page = option_map string_bytes page;
+        } }
+    {
+        self.public = public;
+        self.page = page;
+        self
+    }
+
     // The tree, the paths that are denied, and the origins.
     pub(crate) fn into_parts(self) -> (Tree, Vec<Path>, Vec<String>)
         ensures { (result.0 ≡ self.tree) × (result.1.items ≡ self.denied)
@@ -127,6 +151,8 @@ impl Emulating {
             is_synced: _,
             denied: paths,
             origins: all,
+            public: _,
+            page: _,
         } = self;
         (first, paths, all)
     }

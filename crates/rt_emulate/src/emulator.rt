@@ -14,6 +14,7 @@ use crate::keeper::{Keeper, say};
 use crate::keys::Keys;
 use crate::level::Kind;
 use crate::pen::Pen;
+use crate::site::Site;
 use crate::telling;
 use mio::net::TcpStream;
 use rt_hub::{Bounds, Hub};
@@ -77,6 +78,17 @@ where
     Ok(())
 }
 
+// The folders whose files are served, if there are such.
+fn site_of<Y: Files>(
+    system: &Y,
+    alloc: Global,
+    emulating: &mut Emulating,
+) -> Result<Site, EmulateFault> {
+    let public = emulating.public.take();
+    let page = emulating.page.take();
+    Site::open(system, alloc, public, page)
+}
+
 // The journal of the file that the tree is kept in, if there is one. Its tree is the first one then.
 fn journal_of<Y>(
     system: &Y,
@@ -117,21 +129,32 @@ fn guests_of(
     emulating: Emulating,
     journal: Option<Journal>,
     keys: Keys,
+    site: Site,
     is_telling: bool,
 ) -> Guests {
     let (tree, denied, origins) = emulating.into_parts();
     let hub = Hub::new(alloc, tree, denied, Bounds::full());
-    Guests::new(alloc, hub, Keeper::new(journal), keys, origins, is_telling)
+    Guests::new(
+        alloc,
+        hub,
+        Keeper::new(journal),
+        keys,
+        site,
+        origins,
+        is_telling,
+    )
 }
 
 impl Emulator {
-    /// Reads the seed and the file, if there are such, and waits at the port: from here on clients can connect.
+    /// Looks for the folders that are served, reads the seed and the file, if there are such, and waits
+    /// at the port: from here on clients can connect.
     ///
     /// # Errors
     ///
-    /// `NotKept` where a file can't be read or written, has no tree, or is another emulator's, `NotBound`
-    /// where the port can't be bound, `NotWaited` where the system has nothing to wait with, each with the
-    /// reason; `NoMemory` where memory is lacking.
+    /// `NotKept` where a file can't be read or written, has no tree, or is another emulator's,
+    /// `NotServed` where a folder isn't there or is none, `NotBound` where the port can't be bound,
+    /// `NotWaited` where the system has nothing to wait with, each with the reason; `NoMemory` where
+    /// memory is lacking.
     pub fn open<R, Y>(
         rt: &R,
         system: &Y,
@@ -146,6 +169,7 @@ impl Emulator {
         let (host, count) = (emulating.host, emulating.count);
         let address = SocketAddr::new(host, emulating.port);
         let edge = Edge::open(rt, system, alloc, address)?;
+        let site = site_of(system, alloc, &mut emulating)?;
         sow(system, &mut emulating)?;
         let journal = journal_of(system, &mut emulating, log)?;
         telling::listening(alloc, log, address);
@@ -157,6 +181,7 @@ impl Emulator {
                 emulating,
                 journal,
                 Keys::begin(system),
+                site,
                 log.says(Kind::Message),
             ),
             count,
@@ -274,7 +299,7 @@ impl Emulator {
     }
 
     // Those that have come have their turns.
-    fn turn(&mut self, log: &mut Diary) -> Result<(), Halt> {
+    fn turn<Y: Files<File = File>>(&mut self, system: &Y, log: &mut Diary) -> Result<(), Halt> {
         let gone = self.guests.gone;
         let is_time = match self.retry_at {
             Some(at) => at <= self.now,
@@ -284,7 +309,7 @@ impl Emulator {
             self.let_in(log)?;
         }
         let count = self.guests.present.all.len();
-        self.guests.turn_all(self.now, log)?;
+        self.guests.turn_all(system, self.now, log)?;
         self.guests.ring_all(self.now, log)?;
         self.guests.leave_on()?;
         if self.guests.present.all.len() < count || gone < self.guests.gone {
@@ -305,7 +330,7 @@ impl Emulator {
         Y: Files<File = File> + RandomSource,
     {
         let stops = self.take()?;
-        self.turn(log)?;
+        self.turn(system, log)?;
         self.guests.keep(rt, system, self.now, log)?;
         let is_done = match self.count {
             Some(count) => self.guests.gone >= u64::from(count),

@@ -19,6 +19,8 @@ pub enum EmulateFault {
     NotKept(JournalFault),
     #[error("out of memory")]
     NoMemory,
+    #[error("the folder {folder} can't be served: {why}")]
+    NotServed { folder: String, why: io::Error },
 }
 
 impl Drop for EmulateFault {
@@ -27,7 +29,8 @@ impl Drop for EmulateFault {
             EmulateFault::NotBound { port: _, why: _ }
             | EmulateFault::NotWaited(_)
             | EmulateFault::NotKept(_)
-            | EmulateFault::NoMemory => {}
+            | EmulateFault::NoMemory
+            | EmulateFault::NotServed { folder: _, why: _ } => {}
         }
     }
 }
@@ -39,7 +42,7 @@ impl fmt::Debug for EmulateFault {
 }
 
 impl EmulateFault {
-    /// The number of the fault, from 1 to 4.
+    /// The number of the fault, from 1 to 5.
     pub fn code(&self) -> u8
         ensures { result ≡ code_of self.now }
     {
@@ -48,6 +51,7 @@ impl EmulateFault {
             EmulateFault::NotWaited(_) => 2,
             EmulateFault::NotKept(_) => 3,
             EmulateFault::NoMemory => 4,
+            EmulateFault::NotServed { .. } => 5,
         }
     }
 
@@ -60,6 +64,7 @@ impl EmulateFault {
             EmulateFault::NotWaited(_) => "NotWaited",
             EmulateFault::NotKept(_) => "NotKept",
             EmulateFault::NoMemory => "NoMemory",
+            EmulateFault::NotServed { .. } => "NotServed",
         }
     }
 }

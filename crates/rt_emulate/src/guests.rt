@@ -1,6 +1,9 @@
 // Those that have come, over one hub.
-ghost use Rattle.std.specs.Prelude.{IfOk};
-ghost use Rattle.rt_emulate.specs.inside.Guests.{HandsAt, talk_at};
+ghost use Rattle.std.specs.Prelude.{◌≡◌, [], IfOk, OnOk};
+ghost use Rattle.std.specs.Option.{option_map_or};
+ghost use Rattle.rt_emulate.specs.declared.ending.Ending.TheVariants.{Stopped};
+ghost use Rattle.rt_emulate.specs.inside.Guests.{HandsAt, NotesEach, asking_at, talk_at};
+ghost use Rattle.rt_emulate.specs.inside.Requests.{stopped_of};
 
 use crate::asking::Next;
 use crate::diary::Diary;
@@ -15,6 +18,7 @@ use crate::on_way::OnWay;
 use crate::origin::Judge;
 use crate::place::set_place;
 use crate::present::Present;
+use crate::site::Site;
 use crate::telling;
 use mio::net::TcpStream;
 use rt_hub::{Hub, Notes};
@@ -53,6 +57,7 @@ pub(crate) struct Guests {
     pub(crate) gone: u64,
     keeper: Keeper,
     keys: Keys,
+    site: Site,
     // How many milliseconds have passed since the start.
     now: u64,
 }
@@ -73,6 +78,7 @@ impl Drop for Guests {
             gone: _,
             keeper: _,
             keys: _,
+            site: _,
             now: _,
         } = self;
     }
@@ -85,6 +91,7 @@ impl Guests {
         hub: Hub,
         keeper: Keeper,
         keys: Keys,
+        site: Site,
         allowed: Vec<String>,
         is_telling: bool,
     ) -> Guests {
@@ -102,6 +109,7 @@ impl Guests {
             gone: 0,
             keeper,
             keys,
+            site,
             now: 0,
         }
     }
@@ -119,7 +127,10 @@ impl Guests {
     }
 
     // Notes those to whose connections something was sent.
-    fn note_told(&mut self) -> Result<(), Halt> {
+    fn note_told(&mut self) -> Result<(), Halt>
+        ensures noted { OnOk result (NotesEach self.old.notes.told.items self.old.present self.new.present) }
+        ensures told { OnOk result (self.new.notes.told.items ≡ []) }
+    {
         self.sent = self.sent.saturating_add(self.notes.told.len());
         self.present.note_each(self.notes.told.as_slice())?;
         self.notes.told.clear();
@@ -127,16 +138,26 @@ impl Guests {
     }
 
     /// Each that is ready has a turn, and what waits is handed over.
-    pub(crate) fn turn_all(&mut self, now: u64, log: &mut Diary) -> Result<(), Halt> {
+    pub(crate) fn turn_all<Y: Files<File = File>>(
+        &mut self,
+        system: &Y,
+        now: u64,
+        log: &mut Diary,
+    ) -> Result<(), Halt> {
         self.now = now;
         let ready = std::mem::replace(&mut self.present.ready, Vec::new(self.alloc));
-        self.turn_each(ready.as_slice(), log)
+        self.turn_each(system, ready.as_slice(), log)
     }
 
     // The guests at these places have a turn, and what waits is handed over.
-    fn turn_each(&mut self, places: &[usize], log: &mut Diary) -> Result<(), Halt> {
+    fn turn_each<Y: Files<File = File>>(
+        &mut self,
+        system: &Y,
+        places: &[usize],
+        log: &mut Diary,
+    ) -> Result<(), Halt> {
         for place in places {
-            match self.turn(*place, log)? {
+            match self.turn(system, *place, log)? {
                 Turned::Idle => {}
                 Turned::More => self.present.get_ready(*place)?,
                 Turned::Ends(why) => self.remove(*place, why, log)?,
@@ -146,7 +167,12 @@ impl Guests {
     }
 
     // The guest at that place has a turn.
-    fn turn(&mut self, place: usize, log: &mut Diary) -> Result<Turned, Halt> {
+    fn turn<Y: Files<File = File>>(
+        &mut self,
+        system: &Y,
+        place: usize,
+        log: &mut Diary,
+    ) -> Result<Turned, Halt> {
         let Some(guest) = self.present.all.get_mut(place) else {
             return Ok(Turned::Idle);
         };
@@ -154,7 +180,7 @@ impl Guests {
             return self.listen_to(place, log);
         }
         if guest.asking().is_some() {
-            return self.hear_requests(place, log);
+            return self.hear_requests(system, place, log);
         }
         self.shake(place, log)
     }
@@ -175,8 +201,13 @@ impl Guests {
     }
 
     // Takes what the guest at that place asks by plain HTTP in its turn.
-    fn hear_requests(&mut self, place: usize, log: &mut Diary) -> Result<Turned, Halt> {
-        let turned = self.hear_each(place, log)?;
+    fn hear_requests<Y: Files<File = File>>(
+        &mut self,
+        system: &Y,
+        place: usize,
+        log: &mut Diary,
+    ) -> Result<Turned, Halt> {
+        let turned = self.hear_each(system, place, log)?;
         if let Some(asking) = self.present.asking(place) {
             asking.settle(self.now);
         }
@@ -184,9 +215,14 @@ impl Guests {
     }
 
     // Does what is next of the guest at that place, which asks, one step after another.
-    fn hear_each(&mut self, place: usize, log: &mut Diary) -> Result<Turned, Halt> {
+    fn hear_each<Y: Files<File = File>>(
+        &mut self,
+        system: &Y,
+        place: usize,
+        log: &mut Diary,
+    ) -> Result<Turned, Halt> {
         for _ in 0..TURN_STEPS {
-            if let Some(turned) = self.hear_request(place, log)? {
+            if let Some(turned) = self.hear_request(system, place, log)? {
                 return Ok(turned);
             }
         }
@@ -194,25 +230,38 @@ impl Guests {
     }
 
     // Does what is next of the guest at that place, which asks. Answers what became of its turn, if it is over.
-    fn hear_request(&mut self, place: usize, log: &mut Diary) -> Result<Option<Turned>, Halt> {
+    fn hear_request<Y: Files<File = File>>(
+        &mut self,
+        system: &Y,
+        place: usize,
+        log: &mut Diary,
+    ) -> Result<Option<Turned>, Halt> {
         let Some(asking) = self.present.asking(place) else {
             return Ok(Some(Turned::Idle));
         };
         match asking.next()? {
             Next::Again => Ok(None),
+            Next::Pause => Ok(Some(Turned::More)),
             Next::Idle => Ok(Some(Turned::Idle)),
-            Next::Answer => self.answer_request(place, log),
+            Next::Answer => self.answer_request(system, place, log),
             Next::Upgrade(size) => Ok(Some(self.upgrade(place, size, log)?)),
             Next::Ends(why) => Ok(Some(Turned::Ends(why))),
         }
     }
 
     // Answers the request of the guest at that place. Answers what became of its turn, if it is over.
-    fn answer_request(&mut self, place: usize, log: &mut Diary) -> Result<Option<Turned>, Halt> {
+    fn answer_request<Y: Files<File = File>>(
+        &mut self,
+        system: &Y,
+        place: usize,
+        log: &mut Diary,
+    ) -> Result<Option<Turned>, Halt> {
         let Some(asking) = self.present.asking(place) else {
             return Ok(Some(Turned::Idle));
         };
         asking.answer(
+            system,
+            &self.site,
             &mut self.hub,
             &mut self.keeper,
             &mut self.notes.told,
@@ -477,7 +526,9 @@ impl Guests {
     }
 
     // Why the guest at that place goes where all are ended.
-    fn stopped(&mut self, place: usize) -> Ending {
+    fn stopped(&mut self, place: usize) -> Ending
+        ensures { result ≡ option_map_or stopped_of (asking_at self.old.present place) Stopped }
+    {
         match self.present.asking(place) {
             Some(asking) => asking.stopped(),
             None => Ending::Stopped,

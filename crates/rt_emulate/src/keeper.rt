@@ -1,8 +1,11 @@
 // Who keeps what was accepted.
-ghost use Rattle.std.specs.Prelude.{◌≡◌, OnOk};
-ghost use Rattle.std.specs.Option.{option_map};
+ghost use Rattle.std.specs.Prelude.{◌≡◌, None, Some, OnOk};
+ghost use Rattle.std.specs.Option.{option_and_then, option_map};
+ghost use Rattle.rt_journal.specs.Due.{next_at};
 ghost use Rattle.rt_journal.specs.Journals.{appended};
-ghost use Rattle.rt_emulate.specs.inside.Keeping.{note_all, note_end, note_text, note_turn, noted_of};
+ghost use Rattle.rt_emulate.specs.declared.halt.Halt.TheVariants.{Unkept};
+ghost use Rattle.rt_emulate.specs.inside.Keeping.{fault_by, note_all, note_end, note_text, note_turn};
+ghost use Rattle.rt_emulate.specs.inside.Keeping.{noted_of};
 
 use crate::diary::Diary;
 use crate::fault::EmulateFault;
@@ -60,7 +63,9 @@ pub(crate) fn say(journal: &Journal, notice: Option<Notice>, log: &mut Diary) {
 }
 
 impl Keeper {
-    pub(crate) fn new(journal: Option<Journal>) -> Keeper {
+    pub(crate) fn new(journal: Option<Journal>) -> Keeper
+        ensures { result ≡ record { journal = journal; fault = None } }
+    {
         Keeper {
             journal,
             fault: None,
@@ -112,7 +117,10 @@ impl Keeper {
     }
 
     // Keeps why it can't be kept any more.
-    fn fail(&mut self, fault: JournalFault) -> Halt {
+    fn fail(&mut self, fault: JournalFault) -> Halt
+        ensures halt { result ≡ Unkept }
+        ensures kept { self.new ≡ record (self.old) { fault = Some fault } }
+    {
         self.fault = Some(fault);
         Halt::Unkept
     }
@@ -144,7 +152,9 @@ impl Keeper {
     }
 
     /// When its next turn is to come; none where nothing is due.
-    pub(crate) fn next_at(&self, now: u64) -> Option<u64> {
+    pub(crate) fn next_at(&self, now: u64) -> Option<u64>
+        ensures { result ≡ option_and_then (λ j. next_at j.standing now) self.now.journal }
+    {
         match &self.journal {
             Some(journal) => journal.next_at(now),
             None => None,
@@ -176,7 +186,10 @@ impl Keeper {
     }
 
     /// Why turns ended early, as it is said.
-    pub(crate) fn fault_of(&mut self, halt: Halt) -> EmulateFault {
+    pub(crate) fn fault_of(&mut self, halt: Halt) -> EmulateFault
+        ensures fault { result ≡ fault_by halt self.old.fault }
+        ensures taken { self.new ≡ record (self.old) { fault = None } }
+    {
         match (halt, self.fault.take()) {
             (Halt::Unkept, Some(fault)) => EmulateFault::from(fault),
             (Halt::Unkept, None) | (Halt::NoMemory, _) => EmulateFault::NoMemory,

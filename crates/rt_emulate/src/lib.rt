@@ -11,7 +11,8 @@
 //! ```
 //!
 //! What a message does, and how texts are taken and handed over, is decided by `rt_hub`. This
-//! crate is the edge: streams, handshakes, turns, what is due of a silent client, and the tree's file.
+//! crate is the edge: streams, handshakes, turns, what is due of a silent client, the tree's file, and the files that
+//! are served beside the tree.
 #![tactic(auto)]
 
 mod alarm;
@@ -42,7 +43,9 @@ mod place;
 mod present;
 mod protocol;
 mod replay;
+mod rest;
 mod silence;
+mod site;
 mod socket;
 mod stamp;
 mod telling;

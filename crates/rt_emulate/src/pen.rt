@@ -1,4 +1,7 @@
 // Lines are written by a thread of their own.
+ghost use Rattle.std.specs.Prelude.{◌≡◌, ◌&&◌, not, None};
+ghost use Rattle.std.specs.Option.{is_none, is_some};
+
 use crate::diary::Diary;
 use std::alloc::{AllocError, Global};
 use std::io::Write;
@@ -43,14 +46,20 @@ impl Drop for Desk {
 
 impl Slot {
     // The lines that are to be written next, which are being written from now on.
-    fn take(&mut self) -> Option<Vec<u8>> {
+    fn take(&mut self) -> Option<Vec<u8>>
+        ensures taken { result ≡ self.old.lines }
+        ensures left { self.new
+            ≡ record (self.old) { lines = None; is_writing = is_some self.old.lines } }
+    {
         let lines = self.lines.take();
         self.is_writing = lines.is_some();
         lines
     }
 
     // Whether all is written.
-    fn is_done(&self) -> bool {
+    fn is_done(&self) -> bool
+        ensures { result ≡ (is_none self.now.lines && not self.now.is_writing) }
+    {
         self.lines.is_none() && !self.is_writing
     }
 }

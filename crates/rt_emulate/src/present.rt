@@ -1,9 +1,10 @@
 // Those that are there, each at a place of its own, and who is next.
-ghost use Rattle.std.specs.Prelude.{◌≡◌, ◌≢◌, ◌∷◌, ◌++◌, [], ℕ, OnOk};
+ghost use Rattle.std.specs.Prelude.{◌≡◌, ◌≢◌, ◌∷◌, ◌++◌, [], ℕ, None, OnOk};
 ghost use Rattle.std.specs.Option.{option_copied_mut, option_map};
 ghost use Rattle.slab.specs.Slab.{get};
 ghost use Rattle.rt_emulate.specs.inside.Guests.{asking_at, guest_of, is_idle, marked, noted_after, readied, ready_after};
-ghost use Rattle.rt_emulate.specs.inside.Guests.{talk_at};
+ghost use Rattle.rt_emulate.specs.inside.Guests.{NotesAt, NotesEach, talk_at};
+ghost use Rattle.rt_emulate.specs.inside.Places.{place_of};
 
 use crate::alarm::Alarms;
 use crate::asking::Asking;
@@ -40,7 +41,11 @@ impl Drop for Present {
 
 impl Present {
     /// Nobody is there yet.
-    pub(crate) fn new(alloc: Global) -> Present {
+    pub(crate) fn new(alloc: Global) -> Present
+        ensures nobody { (q : ℕ) → get result.all q ≡ None }
+        ensures nothing { (result.places.items ≡ []) × (result.ready.items ≡ [])
+            × (result.noted.items ≡ []) × (result.alarms ≡ []) }
+    {
         Present {
             all: Slab::new(alloc),
             places: Vec::new(alloc),
@@ -125,12 +130,22 @@ impl Present {
         push(&mut self.noted, place)
     }
 
+    // What waits for the guest of that connection is handed over next, if it is still there.
+    fn note_of(&mut self, connection: u64) -> Result<(), Halt>
+        ensures { OnOk result (NotesAt (place_of self.old.places.items connection) self.old self.new) }
+    {
+        match place_of(&self.places, connection) {
+            Some(place) => self.note(place),
+            None => Ok(()),
+        }
+    }
+
     /// What waits for the guests of these connections is handed over next.
-    pub(crate) fn note_each(&mut self, connections: &[u64]) -> Result<(), Halt> {
+    pub(crate) fn note_each(&mut self, connections: &[u64]) -> Result<(), Halt>
+        ensures { OnOk result (NotesEach connections.now self.old self.new) }
+    {
         for connection in connections {
-            if let Some(place) = place_of(&self.places, *connection) {
-                self.note(place)?;
-            }
+            self.note_of(*connection)?;
         }
         Ok(())
     }

@@ -5,6 +5,11 @@ pub on_ok : {A E P Q : Type 0} (r : Result A E) → (P → Q) → OnOk r P → O
 on_ok (Ok a) f h = f h
 on_ok (Err e) f h = tt
 
+-- three of them
+pub three : (o a b k x y z : List ℕ) → x ≡ o ++ a → y ≡ x ++ b → z ≡ y ++ k → z ≡ o ++ (a ++ b ++ k)
+three o a b k x y z e f g =
+    g ∙ ap (λ t. t ++ k) (f ∙ ap (λ t. t ++ b) e ∙ append_assoc o a b) ∙ append_assoc o (a ++ b) k
+
 -- four of them
 pub four : (o a b k d x y z w : List ℕ) → x ≡ o ++ a → y ≡ x ++ b → z ≡ y ++ k → w ≡ z ++ d
     → w ≡ o ++ (a ++ b ++ k ++ d)

@@ -5,7 +5,7 @@ use Rattle.rt_http.specs.declared.status.Status.{Status}
 use Rattle.rt_http.specs.declared.status.Status.TheVariants.{Okay, BadRequest, Unauthorized, Forbidden, NotFound}
 use Rattle.rt_http.specs.declared.status.Status.TheVariants.{MethodNotAllowed, PayloadTooLarge, ExpectationFailed}
 use Rattle.rt_http.specs.declared.status.Status.TheVariants.{UpgradeRequired, FieldsTooLarge, NotImplemented, Unavailable}
-use Rattle.rt_http.specs.declared.status.Status.TheVariants.{VersionNotSupported}
+use Rattle.rt_http.specs.declared.status.Status.TheVariants.{VersionNotSupported, ReadOnly}
 
 -- the end of a line
 abbrev pub line_end : List ℕ
@@ -31,6 +31,7 @@ allowed Unauthorized = []
 allowed Forbidden = []
 allowed NotFound = []
 allowed MethodNotAllowed = field_bytes (codes "Allow", codes "GET, HEAD, PUT, PATCH, POST, DELETE")
+allowed ReadOnly = field_bytes (codes "Allow", codes "GET, HEAD")
 allowed PayloadTooLarge = []
 allowed ExpectationFailed = []
 allowed UpgradeRequired = field_bytes (codes "Sec-WebSocket-Version", codes "13")
@@ -69,3 +70,17 @@ answer_head status is_kept page size =
 abbrev pub answer_bytes : Status → Bool → Bool → Option (List ℕ) → List ℕ → List ℕ
 answer_bytes status is_kept is_bare page body =
     answer_head status is_kept page (length body) ++ (if is_bare then [] else body)
+
+-- the fields of a file of that media type, which has so many bytes: a browser takes it for no other type, and asks
+-- for it anew each time
+abbrev pub file_fields : List ℕ → ℕ → Bool → List ℕ
+file_fields kind size is_kept =
+    field_bytes (codes "Content-Type", kind)
+    ++ field_bytes (codes "X-Content-Type-Options", codes "nosniff")
+    ++ field_bytes (codes "Cache-Control", codes "no-cache")
+    ++ field_bytes (codes "Content-Length", decimal size)
+    ++ field_bytes (codes "Connection", going_on is_kept)
+
+-- the head of a file: no field lets a page of another origin read it
+abbrev pub file_head : List ℕ → ℕ → Bool → List ℕ
+file_head kind size is_kept = line_bytes Okay ++ file_fields kind size is_kept ++ line_end

@@ -8,11 +8,14 @@ use Rattle.rt_http.specs.declared.marks.Unsupported.{Unsupported}
 use Rattle.rt_http.specs.declared.marks.Unsupported.TheVariants.{Events, Etags, Login, Override}
 use Rattle.rt_http.specs.declared.status.Status.{Status}
 use Rattle.rt_http.specs.declared.status.Status.TheVariants.{BadRequest, Unauthorized, Forbidden, NotFound, MethodNotAllowed, NotImplemented, Unavailable}
+use Rattle.rt_http.specs.declared.status.Status.TheVariants.{ReadOnly}
 
 -- what becomes of a request that is refused so
 abbrev pub fault_status : Fault → Status
 fault_status fault.NotFound = NotFound
 fault_status fault.Method = MethodNotAllowed
+fault_status fault.ReadOnly = ReadOnly
+fault_status fault.FileTooLarge = NotFound
 fault_status (fault.Lacks lack) = NotImplemented
 fault_status fault.PathNoText = BadRequest
 fault_status (fault.Path error) = BadRequest
@@ -53,6 +56,8 @@ lack_words Override = codes "this server reads no X-HTTP-Method-Override"
 abbrev pub words_of : Fault → List ℕ
 words_of fault.NotFound = codes "nothing is here: a place of the tree ends with .json"
 words_of fault.Method = codes "this method can't be used here"
+words_of fault.ReadOnly = codes "what is here can only be read, by GET and HEAD"
+words_of fault.FileTooLarge = codes "the file here has more than 67108864 bytes"
 words_of (fault.Lacks lack) = lack_words lack
 words_of fault.PathNoText = codes "Invalid path: its escapes make no UTF-8"
 words_of (fault.Path error) = tree_words error

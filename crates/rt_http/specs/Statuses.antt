@@ -6,7 +6,7 @@ use Rattle.rt_http.specs.declared.status.Status.{Status}
 use Rattle.rt_http.specs.declared.status.Status.TheVariants.{Okay, BadRequest, Unauthorized, Forbidden, NotFound}
 use Rattle.rt_http.specs.declared.status.Status.TheVariants.{MethodNotAllowed, PayloadTooLarge, ExpectationFailed}
 use Rattle.rt_http.specs.declared.status.Status.TheVariants.{UpgradeRequired, FieldsTooLarge, NotImplemented, Unavailable}
-use Rattle.rt_http.specs.declared.status.Status.TheVariants.{VersionNotSupported}
+use Rattle.rt_http.specs.declared.status.Status.TheVariants.{VersionNotSupported, ReadOnly}
 
 -- the number and its words
 abbrev pub line_of : Status → List ℕ
@@ -16,6 +16,7 @@ line_of Unauthorized = codes "401 Unauthorized"
 line_of Forbidden = codes "403 Forbidden"
 line_of NotFound = codes "404 Not Found"
 line_of MethodNotAllowed = codes "405 Method Not Allowed"
+line_of ReadOnly = codes "405 Method Not Allowed"
 line_of PayloadTooLarge = codes "413 Content Too Large"
 line_of ExpectationFailed = codes "417 Expectation Failed"
 line_of UpgradeRequired = codes "426 Upgrade Required"

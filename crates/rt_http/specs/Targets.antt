@@ -1,7 +1,7 @@
 -- What the target of a request names.
 use Rattle.std.specs.Prelude.{ℕ, List, [], ◌∷◌, ◌-◌, Bool, true, false, ◌||◌, ◌==◌, take, drop, length, if◌then◌else◌, codes}
 use Rattle.std.specs.Prelude.{Option, Some, None, Result, Ok, Err}
-use Rattle.std.specs.List.{list_all, list_any}
+use Rattle.std.specs.List.{before_first, list_all, list_any}
 use Rattle.std.specs.Option.{option_map_or}
 use Rattle.std.specs.Str.{bytes_eq, is_utf8}
 use Rattle.percent_encoding.specs.Percent.{percent_decode}
@@ -27,6 +27,10 @@ stem_of path =
 -- the text that bytes with escapes stand for, if it is one
 abbrev pub unescaped : List ℕ → Option (List ℕ)
 unescaped bytes = if is_utf8 (percent_decode bytes) then Some (percent_decode bytes) else None
+
+-- the path that a target names without a query, as a text without escapes
+abbrev pub path_named : List ℕ → Option (List ℕ)
+path_named target = unescaped (before_first is_mark target)
 
 -- the path of a text
 abbrev pub path_of : List ℕ → Result (List (List ℕ)) Fault

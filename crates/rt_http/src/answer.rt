@@ -1,7 +1,7 @@
 // The bytes of an answer.
 ghost use Rattle.std.specs.Prelude.{◌≡◌, ◌++◌, OnOk, if◌then◌else◌, decimal, codes, option_copied};
 ghost use Rattle.rt_http.specs.Answers.{allowed, answer_bytes, answer_fields, answer_head, field_bytes, going_on, line_bytes};
-ghost use Rattle.rt_http.specs.Answers.{origin_fields, page_fields};
+ghost use Rattle.rt_http.specs.Answers.{file_fields, file_head, origin_fields, page_fields};
 
 use crate::status::Status;
 use std::alloc::AllocError;
@@ -62,6 +62,7 @@ fn put_allowed(out: &mut Vec<u8>, status: Status) -> Result<(), AllocError>
 {
     match status {
         Status::MethodNotAllowed => put_field(out, "Allow", METHODS),
+        Status::ReadOnly => put_field(out, "Allow", "GET, HEAD"),
         Status::UpgradeRequired => put_field(out, "Sec-WebSocket-Version", "13"),
         Status::Okay
         | Status::BadRequest
@@ -151,4 +152,39 @@ pub fn put_answer(
 {
     put_head(out, status, is_kept, page, body.len())?;
     if is_bare { Ok(()) } else { put(out, body) }
+}
+
+// Puts the fields of a file behind them.
+fn put_file_fields(
+    out: &mut Vec<u8>,
+    kind: &str,
+    size: usize,
+    is_kept: bool,
+) -> Result<(), AllocError>
+    ensures { OnOk result (out.new.items ≡ out.old.items ++ file_fields kind.now size is_kept) }
+{
+    put_field(out, "Content-Type", kind)?;
+    put_field(out, "X-Content-Type-Options", "nosniff")?;
+    put_field(out, "Cache-Control", "no-cache")?;
+    put_length(out, size)?;
+    put_field(out, "Connection", going_on(is_kept))
+}
+
+/// Puts the head of a file behind the bytes: its media type, how many bytes it has, and whether the
+/// connection goes on. The file itself comes behind it.
+///
+/// # Errors
+///
+/// Want of memory; a part of the head may stand there then.
+pub fn put_file_head(
+    out: &mut Vec<u8>,
+    kind: &str,
+    size: usize,
+    is_kept: bool,
+) -> Result<(), AllocError>
+    ensures { OnOk result (out.new.items ≡ out.old.items ++ file_head kind.now size is_kept) }
+{
+    put_line(out, Status::Okay)?;
+    put_file_fields(out, kind, size, is_kept)?;
+    put(out, "\r\n")
 }

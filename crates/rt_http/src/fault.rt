@@ -14,6 +14,10 @@ pub enum Fault {
     NotFound,
     /// Its method is none of those that there are for its path.
     Method,
+    /// It is no place of the tree, so it can only be read.
+    ReadOnly,
+    /// The file there has more bytes than are served.
+    FileTooLarge,
     /// It wants what this server doesn't have.
     Lacks(Unsupported),
     /// The escapes of its path make no UTF-8.
@@ -93,6 +97,8 @@ impl Fault {
         match self {
             Fault::NotFound => Status::NotFound,
             Fault::Method => Status::MethodNotAllowed,
+            Fault::ReadOnly => Status::ReadOnly,
+            Fault::FileTooLarge => Status::NotFound,
             Fault::Lacks(_) => Status::NotImplemented,
             Fault::PathNoText => Status::BadRequest,
             Fault::Path(_) => Status::BadRequest,
@@ -120,6 +126,8 @@ impl Fault {
         match self {
             Fault::NotFound => "nothing is here: a place of the tree ends with .json",
             Fault::Method => "this method can't be used here",
+            Fault::ReadOnly => "what is here can only be read, by GET and HEAD",
+            Fault::FileTooLarge => "the file here has more than 67108864 bytes",
             Fault::Lacks(lack) => lack_words(lack),
             Fault::PathNoText => "Invalid path: its escapes make no UTF-8",
             Fault::Path(error) => tree_words(error),

@@ -33,15 +33,16 @@ mod request;
 mod shallow;
 mod status;
 
-pub use answer::{GO_ON, put_answer};
+pub use answer::{GO_ON, put_answer, put_file_head};
 pub use ask::{Ask, Asked, read_ask};
 pub use fault::Fault;
 pub use handshake::handshake_len;
 pub use incoming::{Incoming, Turn};
-pub use limits::{MAX_CHUNK_LINE, MAX_FIELDS, MAX_HEAD_BYTES, MAX_TRAILERS};
+pub use limits::{MAX_CHUNK_LINE, MAX_FIELDS, MAX_FILE_BYTES, MAX_HEAD_BYTES, MAX_TRAILERS};
 pub use marks::{Framing, Marks, Unsupported};
 pub use message::{ONLY, Wanted};
 pub use method::Method;
+pub use place::named_path;
 pub use refusal::Refusal;
 pub use reply::{HEALTHY, error_text, laid_out, refusal_text, reply_of};
 pub use request::Request;

@@ -11,3 +11,6 @@ pub const MAX_CHUNK_LINE: usize = 256;
 
 /// The most fields behind the last chunk.
 pub const MAX_TRAILERS: usize = 16;
+
+/// The most bytes of a file that is served.
+pub const MAX_FILE_BYTES: usize = 67108864;

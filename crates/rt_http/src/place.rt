@@ -3,7 +3,7 @@ ghost use Rattle.std.specs.Prelude.{◌≡◌, ◌⊎◌, IfOk, IfErr, Ok, Err, 
 ghost use Rattle.std.specs.List.{before_first, after_first, list_all, list_any};
 ghost use Rattle.std.specs.Option.{option_map};
 ghost use Rattle.form_urlencoded.specs.Form.{raw_pairs};
-ghost use Rattle.rt_http.specs.Targets.{is_known, is_login, is_mark, path_of, place_of, pretty_of, shallow_said, stem_of};
+ghost use Rattle.rt_http.specs.Targets.{is_known, is_login, is_mark, path_named, path_of, place_of, pretty_of, shallow_said, stem_of};
 ghost use Rattle.rt_http.specs.Targets.{unescaped, value_of, words_in};
 
 use crate::fault::Fault;
@@ -59,6 +59,19 @@ pub(crate) fn unescaped(alloc: Global, bytes: &[u8]) -> Result<Option<String>, A
         Ok(text) => Ok(Some(String::from_str(alloc, text)?)),
         Err(_) => Ok(None),
     }
+}
+
+/// The path that a target names without its query, as a text without escapes; none where these make no
+/// UTF-8.
+///
+/// # Errors
+///
+/// Want of memory.
+pub fn named_path(alloc: Global, target: &str) -> Result<Option<String>, AllocError>
+    ensures { IfOk result (λ path. option_map string_bytes path ≡ path_named target.now) }
+{
+    let (at, _) = split(target);
+    unescaped(alloc, at.as_bytes())
 }
 
 // The path of a text, as keys between slashes.

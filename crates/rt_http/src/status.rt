@@ -19,6 +19,8 @@ pub enum Status {
     NotFound,
     /// 405: it is done by another method, or by none.
     MethodNotAllowed,
+    /// 405: it can only be read.
+    ReadOnly,
     /// 413: its body is too long.
     PayloadTooLarge,
     /// 417: it expects what this server doesn't do.
@@ -47,6 +49,7 @@ impl Status {
             Status::Forbidden => "403 Forbidden",
             Status::NotFound => "404 Not Found",
             Status::MethodNotAllowed => "405 Method Not Allowed",
+            Status::ReadOnly => "405 Method Not Allowed",
             Status::PayloadTooLarge => "413 Content Too Large",
             Status::ExpectationFailed => "417 Expectation Failed",
             Status::UpgradeRequired => "426 Upgrade Required",

@@ -1,5 +1,5 @@
 -- Those that are there: what is due of them, and what is heard of one and handed over to it.
-use Rattle.std.specs.Prelude.{◌≡◌, ◌==◌, ◌+◌, ◌-◌, ◌^◌, ℕ, min, Bool, true, false, not, ◌&&◌, ◌||◌, if◌then◌else◌}
+use Rattle.std.specs.Prelude.{◌≡◌, ◌≢◌, ◌==◌, ◌+◌, ◌-◌, ◌^◌, ℕ, min, Bool, true, false, not, ◌&&◌, ◌||◌, if◌then◌else◌}
 use Rattle.std.specs.Prelude.{List, [], ◌∷◌, ◌++◌, Option, Some, None, Result, Ok, Err}
 use Rattle.std.specs.Option.{is_none, option_and_then, option_map, option_map_or}
 use Rattle.slab.specs.Slab.{get}
@@ -60,6 +60,20 @@ abbrev pub noted_after : Present → ℕ → List ℕ
 noted_after p place =
     if option_map_or (λ g. not g.is_noted) (get p.all place) false then p.noted.items ++ place ∷ []
     else p.noted.items
+
+-- what waits for the guest at that place is handed over next
+abbrev pub NotesAt : Option ℕ → Present → Present → Type 0
+NotesAt None old new = new ≡ old
+NotesAt (Some place) old new =
+    (new.noted.items ≡ noted_after old place) × (get new.all place ≡ option_map marked (get old.all place))
+    × ((q : ℕ) → q ≢ place → get new.all q ≡ get old.all q)
+    × (new ≡ record old { all = new.all; noted = new.noted })
+
+-- the same for those of these connections, one after another
+abbrev pub NotesEach : List ℕ → Present → Present → Type 0
+NotesEach [] old new = new ≡ old
+NotesEach (n ∷ ns) old new =
+    (mid : Present) × NotesAt (place_of old.places.items n) old mid × NotesEach ns mid new
 
 -- one that has a turn next
 abbrev pub readied : Guest → Guest

@@ -1,5 +1,5 @@
--- What is noted of requests that were accepted, and of connections that end.
-use Rattle.std.specs.Prelude.{ℕ, List, [], ◌∷◌, string_bytes}
+-- What is noted of requests that were accepted, and of connections that end; why nothing can be.
+use Rattle.std.specs.Prelude.{ℕ, List, [], ◌∷◌, string_bytes, Option, Some, None}
 use Rattle.rt_hub.specs.declared.verdict.When.{When}
 use Rattle.rt_hub.specs.declared.verdict.When.TheVariants.{Now, AtEnd}
 use Rattle.rt_journal.specs.Books.{with_end, with_request, with_turn}
@@ -7,6 +7,12 @@ use Rattle.rt_journal.specs.Journals.{Journal}
 use Rattle.rt_journal.specs.declared.book.Noted.{Noted}
 use Rattle.rt_journal.specs.declared.book.Noted.TheVariants as note
 use Rattle.rt_hub.specs.declared.notes.Accepted.{Accepted}
+use Rattle.rt_journal.specs.declared.fault.JournalFault.{JournalFault}
+use Rattle.rt_emulate.specs.Faults.{of_journal}
+use Rattle.rt_emulate.specs.declared.fault.EmulateFault.{EmulateFault}
+use Rattle.rt_emulate.specs.declared.fault.EmulateFault.TheVariants as emulate
+use Rattle.rt_emulate.specs.declared.halt.Halt.{Halt}
+use Rattle.rt_emulate.specs.declared.halt.Halt.TheVariants as halt
 
 abbrev pub noted_of : When → Noted
 noted_of Now = note.Write
@@ -29,3 +35,9 @@ note_turn n count j = record j { book = with_turn j.book n count }
 
 abbrev pub note_end : ℕ → Journal → Journal
 note_end n j = record j { book = with_end j.book n }
+
+-- why turns ended early, as it is said, where a fault was kept
+abbrev pub fault_by : Halt → Option JournalFault → EmulateFault
+fault_by halt.NoMemory fault = emulate.NoMemory
+fault_by halt.Unkept None = emulate.NoMemory
+fault_by halt.Unkept (Some fault) = of_journal fault
