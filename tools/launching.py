@@ -58,12 +58,13 @@ sleep 1 # the gate may be busy
 rm -rf "$TMPDIR/rt-try"
 echo "run=ended status=0 runners=1 races=unchecked proved=no" >&2
 """
-# Prints its last word and its input, and says a fault, for which its status is 1 where it has an input.
+# Prints its last word, or all where ALL_WORDS is set, and its input, and says a fault, for which its status is 1 where it has an input.
 PROGRAM = r"""
 #include <stdio.h>
+#include <stdlib.h>
 int main(int count, char **words) {
     int byte, status = 0;
-    puts(words[count - 1]);
+    for (int number = getenv("ALL_WORDS") ? 1 : count - 1; number < count; number++) puts(words[number]);
     fflush(stdout);
     for (; (byte = getchar()) != EOF; status = 1) putchar(byte);
     fputs("a fault\n", stderr);
@@ -157,6 +158,7 @@ def wrong_of(copy, script, out):
         os.remove(f"{runs.out}/kaltewi.built")
         without_runs(runs, script)
         kept_runs(runs, script)
+        page_runs(runs)
         terminal_runs(runs)
         held_runs(runs, script)
         newer_runs(runs)
@@ -226,6 +228,21 @@ def kept_runs(runs, script):
     runs.judge("typed lines", (typed.wait(60), *typed.communicate()), (1, b"script\ntyped\n"), ["a fault"])
     os.close(ours)
     os.close(theirs)
+
+
+def page_runs(runs):
+    """`emulate` is given the folder of the page of the tree behind its name, where no other is given; no other command is."""
+    page, own = f"{runs.copy}/bindings/js", "--until-eof"
+    cases = (
+        (["emulate", "8080", own], ["emulate", "--page", page, "8080", own]),
+        (["emulate", "8080", own, "--page", "x"], ["emulate", "8080", own, "--page", "x"]),
+        (["emulate", "--page=x", "8080", own], ["emulate", "--page=x", "8080", own]),
+        (["emulate", own, "8080", "--file"], ["emulate", "--page", page, own, "8080", "--file"]),
+        (["serve", "8080"], ["serve", "8080"]),
+    )
+    for words, given in cases:
+        out = "".join(f"{it}\n" for it in given).encode()
+        runs.says(f"the words of {' '.join(words)}", words, b"", 0, out, "a fault", environment={**runs.fails, "ALL_WORDS": "1"})
 
 
 RLWRAP = """#!/bin/bash

@@ -33,6 +33,7 @@ GIVEN = {
     "Global": "alloc",
     "&mut Handle": "&mut handle",
     "u64": "1",
+    "u32": "1",
     "&[u8]": "&[]",
     "&[usize]": "&[]",
     "&[u8; 12]": "&[0u8; 12]",

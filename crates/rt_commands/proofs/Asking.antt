@@ -152,6 +152,8 @@ asked_of host rows tree denied origins = record {
   is_synced = flag_of (one_of (codes "sync") rows);
   denied = denied;
   origins = origins;
+  public = first_of (codes "public") rows;
+  page = first_of (codes "page") rows;
 }
 
 -- the origins, and behind them all that is asked for
@@ -160,11 +162,12 @@ behind_paths host rows tree denied =
     option_map (asked_of host rows tree denied) (origins_of (all_texts (codes "origin") rows))
 
 pub asked_by : (host : IpAddr) (rows : List Row) (port : ℕ) (count : Option ℕ) (tree : PathTree)
-    (seed file : Option (List ℕ)) (is_synced : Bool) (denied : List Path) (origins : List (List ℕ))
+    (seed file public page : Option (List ℕ)) (is_synced : Bool) (denied : List Path) (origins : List (List ℕ))
     → port ≡ number_of (one_of (codes "PORT") rows)
     → count ≡ count_of (number_of (one_of (codes "count") rows))
     → tree_of (first_of (codes "tree") rows) ≡ Some tree → seed ≡ first_of (codes "seed") rows
-    → file ≡ first_of (codes "file") rows
+    → file ≡ first_of (codes "file") rows → public ≡ first_of (codes "public") rows
+    → page ≡ first_of (codes "page") rows
     → is_synced ≡ flag_of (one_of (codes "sync") rows)
     → paths_of (all_texts (codes "deny") rows) ≡ Some denied
     → origins_of (all_texts (codes "origin") rows) ≡ Some origins
@@ -178,9 +181,11 @@ pub asked_by : (host : IpAddr) (rows : List Row) (port : ℕ) (count : Option �
       is_synced = is_synced;
       denied = denied;
       origins = origins;
+      public = public;
+      page = page;
     }))
-asked_by host rows port count tree seed file is_synced denied origins p n t e f s d o =
-    rw (p, n, e, f, s)
+asked_by host rows port count tree seed file public page is_synced denied origins p n t e f b g s d o =
+    rw (p, n, e, f, b, g, s)
     (ap (option_and_then (λ tree. option_and_then (behind_paths host rows tree)
     (paths_of (all_texts (codes "deny") rows)))) t
     ∙ ap (option_and_then (behind_paths host rows tree)) d

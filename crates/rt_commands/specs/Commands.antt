@@ -70,11 +70,11 @@ begun_app = with_rule (with_rule (with_rule (with_rule (with_rule (with_rule (wi
     port_rule) (text_rule (codes "host"))) (text_rule (codes "tree"))) (text_rule (codes "seed")))
     (text_rule (codes "file"))) (flag_rule (codes "sync"))) (texts_rule (codes "deny"))
 
--- and behind that `[--origin TEXT].. [--count N] [--until-eof] [--log LEVEL] [-q] [-v]`
+-- and behind that `[--origin TEXT].. [--public FOLDER] [--page FOLDER] [--count N] [--until-eof] [--log LEVEL] [-q] [-v]`
 abbrev pub emulate_app : App
-emulate_app = with_rule (with_rule (with_rule (with_rule (with_rule (with_rule begun_app
-    (texts_rule (codes "origin"))) (number_rule (codes "count"))) (flag_rule (codes "until-eof")))
-    (text_rule (codes "log"))) quiet_rule) verbose_rule
+emulate_app = with_rule (with_rule (with_rule (with_rule (with_rule (with_rule (with_rule (with_rule begun_app
+    (texts_rule (codes "origin"))) (text_rule (codes "public"))) (text_rule (codes "page")))
+    (number_rule (codes "count"))) (flag_rule (codes "until-eof"))) (text_rule (codes "log"))) quiet_rule) verbose_rule
 
 -- `connect PORT [--escape] [-v]`
 abbrev pub connect_app : App

@@ -107,6 +107,8 @@ emulation_of host rows =
       is_synced = flag_of (one_of (codes "sync") rows);
       denied = denied;
       origins = origins;
+      public = first_of (codes "public") rows;
+      page = first_of (codes "page") rows;
     }) (origins_of (all_texts (codes "origin") rows))) (paths_of (all_texts (codes "deny") rows)))
     (tree_of (first_of (codes "tree") rows))
 

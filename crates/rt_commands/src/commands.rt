@@ -192,6 +192,9 @@ TAG and ID are whole numbers from 1, and each begins anew with a connection. QUE
 What a client writes is sent at once to all that listen there.
 The port answers plain HTTP too, as Firebase's REST interface: GET, PUT, PATCH, POST and DELETE of /PATH.json, with
 print=pretty, shallow=true, orderBy, startAt, endAt, equalTo, limitToFirst and limitToLast, and GET /healthz.
+With --public the files of FOLDER stand there too, so that one command serves a whole application: a path that ends
+with / is the index.html there, and a file whose name ends with .json or begins with a dot is not served. With --page,
+which ./kaltewi gives by itself, / is a page of the live tree, and /kaltewi.js the client for pages.
 It serves until Ctrl-C or SIGTERM ends it, N connections have gone or, with --until-eof, its standard input
 ends. Then all connections are ended, and what they asked for at their end is done.
 With --file the tree is that of FILE, where there is one, else that of --tree or --seed. What is accepted stands in
@@ -228,6 +231,12 @@ Has each write on the disk before its client hears of it, so that a loss of powe
 
 const ORIGIN: &str = "\
 An origin whose pages may connect, such as https://app.example; may be given several times";
+
+const PUBLIC: &str = "\
+The folder of an application, whose files are served by plain HTTP too. Write -a as --public=-a";
+
+const PAGE: &str = "\
+The folder of the page of the tree, such as bindings/js, whose files are served too. Write -a as --page=-a";
 
 const DENIES: &str = "\
 A path that can't be listened to, nor written, nor any above or below it; may be given several times";
@@ -363,6 +372,8 @@ pub(crate) fn emulate_command<'a>(alloc: Global) -> Result<Command<'a>, AllocErr
     let begun = begun_command(alloc)?;
     let command = begun
         .arg(texts_arg(alloc, "origin", "TEXT", ORIGIN))?
+        .arg(text_arg(alloc, "public", "FOLDER", PUBLIC))?
+        .arg(text_arg(alloc, "page", "FOLDER", PAGE))?
         .arg(number_arg(alloc, "count", "N", GONE))?
         .arg(flag_arg(alloc, "until-eof", UNTIL_EOF))?
         .arg(text_arg(alloc, "log", "LEVEL", LOG))?

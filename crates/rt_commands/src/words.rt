@@ -120,6 +120,8 @@ fn option_of(server: Server, word: &str) -> Option<&'static str> {
         ("--file", Server::Emulate) => Some("--file"),
         ("--seed", Server::Emulate) => Some("--seed"),
         ("--origin", Server::Emulate) => Some("--origin"),
+        ("--public", Server::Emulate) => Some("--public"),
+        ("--page", Server::Emulate) => Some("--page"),
         ("--host", Server::Emulate) => Some("--host"),
         ("--log", Server::Emulate) => Some("--log"),
         _ => None,
@@ -322,12 +324,14 @@ fn read_emulating(alloc: Global, host: IpAddr, entries: &ArgMatches<'_>) -> Resu
     let denied = read_denies(alloc, entries)?;
     let seed = copy_of(alloc, text(entries, "seed"))?;
     let file = copy_of(alloc, text(entries, "file"))?;
+    let public = copy_of(alloc, text(entries, "public"))?;
+    let page = copy_of(alloc, text(entries, "page"))?;
     let is_synced = flag(entries, "sync");
     let origins = read_origins(alloc, entries)?;
     let port = number(entries, "PORT");
     let count = read_count(entries, "count");
     let emulating = Emulating::new(port, count, tree, file, is_synced, denied, origins);
-    Ok(emulating.seeded(seed).at(host))
+    Ok(emulating.seeded(seed).serving(public, page).at(host))
 }
 
 // The address that a text writes, if it writes one.
