@@ -103,7 +103,8 @@ kw_status kw_client_error(kw_client *client, uint32_t *code, uint8_t *out, size_
    want of memory, nothing has changed. */
 
 /* Registers a listener, which the seat is told of from then on. The query is the member `q` of the message that listens,
-   as {"limit":["last",2],"order":"/score"}; one of no bytes listens to all of the path. */
+   as {"limit":["last",2],"order":"/score"}, or an order alone, as {"order":"/score"}; one of no bytes listens to all of
+   the path in the order of its keys. */
 kw_status kw_client_listen(kw_client *client, uint64_t seat, const uint8_t *path, size_t path_len, const uint8_t *query,
                            size_t query_len, uint64_t *listener);
 
@@ -149,6 +150,15 @@ kw_status kw_client_take_outgoing(kw_client *client, uint8_t *out, size_t room, 
 
 /* Hands over to the seat's ring what waits for it, in order, as long as there is room. KW_DONE, KW_WRONG_SEAT. */
 kw_status kw_client_settle(kw_client *client, uint64_t seat);
+
+/* Kinds of changes, as bits of one number. */
+enum { KW_REMOVED = 1, KW_ADDED = 2, KW_MOVED = 4, KW_CHANGED = 8, KW_VALUE = 16 };
+
+/* From now on the batches that the seat is given of a listener have changes of these kinds alone, in their order, and
+   none where there is none of these: without KW_VALUE a batch costs by what has changed, and not by what the listener
+   shows. Other bits are passed over. Nothing is said of a listener at first, and nothing is known of it any more once its
+   end is given: then it is told all kinds. KW_DONE; KW_WRONG_SEAT; on KW_NO_MEMORY it is told what it was told. */
+kw_status kw_client_want(kw_client *client, uint64_t seat, uint64_t listener, uint32_t kinds);
 
 /* Takes the first item of the seat's ring, as JSON. KW_DONE; KW_NONE where the ring is empty, which says nothing of what
    still waits to be handed over; KW_TOO_SMALL, and then it is still to be had; KW_WRONG_SEAT. */

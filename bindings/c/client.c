@@ -65,6 +65,25 @@ static kw_status listen_refused(kw_client *c, answer *a)
     return kw_client_listen(c, 1, TEXT("/a"), TEXT("{\"limit\":[\"last\",0],\"order\":\"key\"}"), &a->number);
 }
 
+/* All children in an order that is told alone. */
+static kw_status listen_ordered(kw_client *c, answer *a)
+{
+    return kw_client_listen(c, 2, TEXT("scores"), TEXT("{\"order\":\"/score\"}"), &a->number);
+}
+
+/* A bit of no kind is passed over. */
+static kw_status want_changed(kw_client *c, answer *a)
+{
+    (void)a;
+    return kw_client_want(c, 1, 1, KW_CHANGED | 32);
+}
+
+static kw_status want_elsewhere(kw_client *c, answer *a)
+{
+    (void)a;
+    return kw_client_want(c, 3, 1, KW_VALUE);
+}
+
 static kw_status unlisten_it(kw_client *c, answer *a)
 {
     (void)a;
@@ -244,6 +263,7 @@ static const struct {
 } calls[] = {
     {"closed", connect_it},          {"closed", listen_all},     {"closed", settle_ann},      {"closed", next_ann},
     {"closed", send_next},           {"closed", show_cover},     {"closed", make_key},        {"closed", say_why},
+    {"closed", want_changed},
     {"open", open_it},               {"65 seats", open_many},    {"no connection", disconnect_it}, {"why", say_why},
     {"connect", connect_it},         {"why", say_why},           {"listen", listen_all},      {"listen", listen_some},
     {"cover", show_cover},           {"bad query", listen_badly}, {"no query", listen_refused}, {"why", say_why},
@@ -258,9 +278,11 @@ static const struct {
     {"ann", next_ann},               {"settle", settle_ann},     {"ann", next_ann},           {"ann", next_ann},
     {"ann", next_ann},               {"remove", remove_it},      {"full", at_end},            {"bob", next_bob},
     {"end", at_end},                 {"bob", next_bob},          {"bob", next_bob},           {"bob", next_bob},
+    {"want", want_changed},          {"no seat", want_elsewhere},
     {"push", tell_push},             {"no push", tell_twice},    {"why", say_why},
     {"revoke", tell_revoked},        {"settle", settle_ann},     {"ann", next_ann},           {"ann", next_ann},
     {"ann", next_ann},               {"ann", next_ann},          {"unlisten", unlisten_it},  {"settle", settle_bob},      {"bob", next_bob},
+    {"order", listen_ordered},       {"cover", show_cover},      {"bob", next_bob},
     {"key", make_key},               {"key", make_key},          {"no key", make_no_key},     {"why", say_why},
     {"keep", keep_next},             {"disconnect", disconnect_it}, {"send", send_next},       {"cover", show_cover},
     {"why", say_why},

@@ -3,6 +3,9 @@ export type Change =
     | { k: "removed"; key: string; old: Json }
     | { k: "added" | "moved" | "changed"; key: string; value: Json; after: string | null }
     | { k: "value"; value: Json };
+export type Kind = Change["k"];
+/** Each kind, with its bit in the module's call. */
+export const KINDS: { readonly [kind in Kind]: number };
 /** What a seat is told, as docs/FORMATS.md has it. */
 export type Item =
     | { k: "listened" | "unlistened"; listener: number }
@@ -33,8 +36,10 @@ export class Client {
     constructor(ring?: number);
     /** How many bytes its memory has. */
     readonly memory: number;
-    /** Registers a listener, and answers its number. The query is the member `q` of the message that listens; none is all of the path. */
+    /** Registers a listener, and answers its number. The query is the member `q` of the message that listens, or an order alone, as `{"order":"/score"}`; none is all of the path. */
     listen(path: string, query?: string): number;
+    /** From now on a listener is told changes of these kinds alone. Without `value` a batch costs by what has changed, not by what the listener shows. */
+    want(listener: number, kinds: Kind[]): void;
     unlisten(listener: number): void;
     /** Sets a tree, which is JSON, at a path, and answers the number of the request. */
     set(path: string, tree: string): number;

@@ -14,6 +14,9 @@ const MODULE = await WebAssembly.compile(await bytesOf(place));
 const WORDS = [
     "Done", "None", "Stale", "TooSmall", "Closed", "NoMemory", "Failed", "BadText", "WrongSeat", "MailboxFull", "TooManySeats", "Refused",
 ];
+/** The kinds of changes, each with its bit in the module's call. */
+export const KINDS = { removed: 1, added: 2, moved: 4, changed: 8, value: 16 };
+const unknown = kind => { throw new DatabaseError("client/NoKind", `there is no kind ${kind}`); };
 const DONE = 0, NONE = 1, STALE = 2, TOO_SMALL = 3, BAD_TEXT = 7, MAILBOX_FULL = 9, REFUSED = 11;
 const ROOM = 65536; // bytes that a text is first given
 const MOST_ITEMS = 65536; // of a seat's ring
@@ -165,8 +168,13 @@ export class Client {
         const text = this.#open.text("next", [1n]);
         return text === undefined ? undefined : JSON.parse(text);
     }
-    /** Registers a listener, and answers its number. The query is the member `q` of the message that listens; none is all of the path. */
+    /** Registers a listener, and answers its number. The query is the member `q` of the message that listens, or an order alone, as `{"order":"/score"}`; none is all of the path. */
     listen(path, query = "") { return this.#ask("listen", path, query); }
+    /** From now on a listener is told changes of these kinds alone, of `KINDS`. Without `value` a batch costs by what has changed. */
+    want(listener, kinds) {
+        const bits = kinds.reduce((sum, it) => sum | (KINDS[it] ?? unknown(it)), 0);
+        this.#open.check(this.#open.run("want", 1n, BigInt(listener), bits));
+    }
     unlisten(listener) { this.#make(() => this.#open.run("unlisten", 1n, BigInt(listener))); }
     /** Sets a tree, which is JSON, at a path, and answers the number of the request. */
     set(path, tree) { return this.#ask("set", path, tree); }

@@ -7,12 +7,14 @@
 //
 // What is proved is in kaltewi.wasm: views, their changes and order, pending writes, the fewest listens, messages. This file
 // moves texts between that and a WebSocket, and keeps of each query what its listeners were told.
-import { Client, DatabaseError } from "./client.js";
+import { Client, DatabaseError, KINDS } from "./client.js";
 export { DatabaseError };
 
 // The pauses before the connection is made again, in milliseconds. A connection that stood as long as the longest begins with the first again,
 // and one that takes as long to come about is given up.
 const FIRST = 1000, LONGEST = 30000;
+// What a view asks for: all kinds of changes, or those of its children alone.
+const KINDS_ALL = Object.keys(KINDS), KINDS_OF_CHILDREN = KINDS_ALL.filter(it => it !== "value");
 
 const refusal = why => new DatabaseError(why === "denied" ? "PERMISSION_DENIED" : "SERVER_REFUSED", why);
 
@@ -143,15 +145,38 @@ function watch(call, hurry) {
 // What the listeners of one query are shown: its children in order, as a chain, and its value.
 class View {
     constructor(db, query) {
-        Object.assign(this, { db, query, callbacks: [], rows: new Map(), head: { key: null }, isKnown: false });
+        Object.assign(this, { db, query, callbacks: [], rows: new Map(), head: { key: null }, isKnown: false, isWhole: true, isFresh: false });
         if (query.keys[0] === ".info") this.info = query.keys.slice(1).join("/");
         db.views.set(query.id, this);
     }
     begin() {
         const { info } = this.db;
         if (this.info) return this.take([{ k: "value", value: Object.hasOwn(info, this.info) ? info[this.info] : null }]);
-        this.number = this.db.ask("listen", this.query.path, this.query.q);
-        this.db.numbered.set(this.number, this);
+        this.number = this.listen();
+        this.ask();
+    }
+    listen() {
+        const number = this.db.ask("listen", this.query.path, this.query.q);
+        this.db.numbered.set(number, this);
+        return number;
+    }
+    // Asks for the whole view where a callback wants it, and else for what has changed, which costs less.
+    ask() {
+        const isWhole = this.callbacks.some(it => it.kind === "value");
+        if (isWhole === this.isWhole) return;
+        this.isWhole = isWhole;
+        this.db.drain(() => this.db.client.want(this.number, isWhole ? KINDS_ALL : KINDS_OF_CHILDREN));
+    }
+    // The view is known but for its value: another listener of the query is told that at once, and goes on in place of this one.
+    renew() {
+        this.isWhole = true;
+        this.db.drain(() => {
+            const old = this.number;
+            this.number = this.listen();
+            this.isFresh = true;
+            this.db.numbered.delete(old);
+            this.db.client.unlisten(old);
+        });
     }
     lift({ before, next }) {
         before.next = next;
@@ -172,6 +197,7 @@ class View {
         }
     }
     take(changes) {
+        if (this.isFresh) return this.refresh(changes.at(-1));
         const waiting = new Map();
         for (const it of changes) {
             const row = this.rows.get(it.key);
@@ -196,18 +222,25 @@ class View {
         for (let row = this.head.next; row; row = row.next) keys.push(row.key);
         return keys;
     }
+    // Of a listener that was begun anew the value alone is new.
+    refresh(change) {
+        this.isFresh = false;
+        this.value = change.value;
+        this.raise(this.callbacks.filter(to => to.kind === "value"), change);
+    }
     // A callback that joins is told what is there already.
     join(callback) {
         this.callbacks.push(callback);
-        if (!this.isKnown) return;
-        if (callback.kind === "value") this.raise([callback], { k: "value" });
+        if (!this.isKnown) return this.number && this.ask();
+        if (callback.kind === "value") return this.isWhole ? this.raise([callback], { k: "value" }) : this.renew();
         if (callback.kind !== "added") return;
         for (let row = this.head.next; row; row = row.next) this.raise([callback], { k: "added", key: row.key, value: row.value, after: row.before.key });
     }
     leave(which) {
         for (const it of this.callbacks.filter(which)) it.isOn = false;
         this.callbacks = this.callbacks.filter(it => it.isOn);
-        if (this.callbacks.length || this.db.views.get(this.query.id) !== this) return;
+        if (this.db.views.get(this.query.id) !== this) return;
+        if (this.callbacks.length) return this.number && this.ask();
         this.end();
         this.db.drain(() => this.number && this.db.client.unlisten(this.number));
     }
@@ -236,10 +269,10 @@ export class Query {
         Object.assign(this, { database, keys, parts });
     }
     get path() { return "/" + this.keys.join("/"); }
-    // The member q of the message that listens. An order alone selects all children: from the least value on.
+    // The member q of the message that listens, or an order alone.
     get q() {
-        const { limit, order = "key", upper, lower = order !== "key" && !limit && !upper ? [null, "min"] : undefined } = this.parts;
-        return limit || lower || upper ? JSON.stringify({ limit, lower, order, upper }) : "";
+        const { limit, lower, order = "key", upper } = this.parts;
+        return limit || lower || upper || order !== "key" ? JSON.stringify({ limit, lower, order, upper }) : "";
     }
     get id() { return this.path + "\n" + this.q; }
     get ref() { return new DatabaseReference(this.database, this.keys); }

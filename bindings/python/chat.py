@@ -21,7 +21,7 @@ class Chatter:
         self.name, self.client, self.socket = name, client, socket
         self.seat = client.seat()
         client.connected()
-        self.seat.listen("/chat")
+        self.seat.listen("/chat", kinds=["added"])
         self.heard = 0
         self.unsettled: set[int] = set()
 

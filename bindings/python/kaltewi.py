@@ -36,6 +36,7 @@ from typing import Any, Iterable, Iterator, Mapping, Optional, Sequence, Type
 
 __version__ = "0.1.0"
 __all__ = [
+    "KINDS",
     "BadLine",
     "BadText",
     "Client",
@@ -106,6 +107,9 @@ _TEXT = (_BYTES, _SIZE)
 _ROOM = (_BYTES, _SIZE, ctypes.POINTER(_SIZE))
 _GIVEN = (ctypes.POINTER(_NUMBER),)
 
+# Kinds of changes, each with its bit in kw_client_want.
+KINDS: Mapping[str, int] = {"removed": 1, "added": 2, "moved": 4, "changed": 8, "value": 16}
+
 # What each call takes behind the handle.
 _CALLS: Mapping[str, tuple] = {
     "kw_core_open": (),
@@ -117,6 +121,7 @@ _CALLS: Mapping[str, tuple] = {
     "kw_client_error": (ctypes.POINTER(ctypes.c_uint32), *_ROOM),
     "kw_client_listen": (_NUMBER, *_TEXT, *_TEXT, *_GIVEN),
     "kw_client_unlisten": (_NUMBER, _NUMBER),
+    "kw_client_want": (_NUMBER, _NUMBER, ctypes.c_uint32),
     "kw_client_set": (_NUMBER, *_TEXT, *_TEXT, *_GIVEN),
     "kw_client_update": (_NUMBER, *_TEXT, *_GIVEN),
     "kw_client_remove": (_NUMBER, *_TEXT, *_GIVEN),
@@ -341,10 +346,19 @@ class Seat:
     def __init__(self, client: Client, number: int):
         self._client, self.number = client, number
 
-    def listen(self, path: str, query: Optional[Mapping[str, Any]] = None) -> int:
-        """Registers a listener, and gives its number. The query is the member `q` of the message that listens; none is all of the path."""
+    def listen(self, path: str, query: Optional[Mapping[str, Any]] = None, kinds: Optional[Iterable[str]] = None) -> int:
+        """Registers a listener, and gives its number. The query is the member `q` of the message that listens, or an order alone, as
+        {"order": "/score"}; none is all of the path. It is told these kinds of changes, or all where none are given: see `want`."""
         where, q = _bytes(path), b"" if query is None else _json(query)
-        return self._numbered("listen", where, len(where), q, len(q))
+        listener = self._numbered("listen", where, len(where), q, len(q))
+        if kinds is not None:
+            self.want(listener, kinds)
+        return listener
+
+    def want(self, listener: int, kinds: Iterable[str]) -> None:
+        """From now on a listener of the seat is told changes of these kinds alone: of KINDS. Without "value" a batch costs by what has changed, and not by
+        what the listener shows."""
+        self._client._done("want", self.number, listener, sum(KINDS[it] for it in set(kinds)))
 
     def unlisten(self, listener: int) -> None:
         """Ends a listener of the seat."""

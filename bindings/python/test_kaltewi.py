@@ -111,6 +111,31 @@ class Clients(unittest.TestCase):
             ann.unlisten(listener)
             self.assertEqual(client.cover(), ["T none"])
 
+    def test_a_listener_is_told_the_kinds_that_it_wants(self):
+        with kaltewi.Client() as client:
+            ann = client.seat()
+            client.connected()
+            few, all_kinds = ann.listen("/a", kinds=["changed", "added"]), ann.listen("/a")
+            client.receive('{"k":"data","path":"/a","tag":1,"value":{"x":1}}')
+            told = {it["listener"]: [change["k"] for change in it["changes"]] for it in ann if it["k"] == "batch"}
+            self.assertEqual(told, {few: ["added"], all_kinds: ["added", "value"]})
+            ann.want(few, ["value"])
+            ann.set("/a/x", 2)
+            told = {it["listener"]: [change["k"] for change in it["changes"]] for it in ann if it["k"] == "batch"}
+            self.assertEqual(told, {few: ["value"], all_kinds: ["changed", "value"]})
+            with self.assertRaises(KeyError):
+                ann.want(few, ["child_added"])
+
+    def test_an_order_alone_is_a_query(self):
+        with kaltewi.Client() as client:
+            ann = client.seat()
+            ann.listen("/a", {"order": "value"})
+            client.connected()
+            self.assertEqual(list(client.outgoing())[1:], ['{"k":"listen","path":"/a","tag":1}'])
+            client.receive('{"k":"data","path":"/a","tag":1,"value":{"x":3,"y":1}}')
+            batch = [it for it in ann if it["k"] == "batch"][0]
+            self.assertEqual([it.get("key") for it in batch["changes"]], ["y", "x", None])
+
     def test_a_full_ring_refuses_nothing(self):
         with kaltewi.Client(rings=[1, 1]) as client:
             ann, bob = client.seat(1), client.seat(2)

@@ -167,6 +167,47 @@ test("who is told that a listener was refused may end another of it, and listen 
     assert.deepEqual([db.views.size, db.numbered.size], [0, 0]);
 });
 
+test("the whole view is asked for only where a callback wants it", () => {
+    const db = opened(), wanted = [], { client } = db, want = client.want.bind(client);
+    client.want = (listener, kinds) => (wanted.push([listener, kinds.length]), want(listener, kinds));
+    const rows = told(ref(db, "a"), ["child_added", "child_changed"]);
+    last().say(data("/a", { x: 1 }), data("/a/x", 2));
+    assert.deepEqual([wanted, rows.length], [[[1, 4]], 2]);
+    const whole = told(ref(db, "a"), ["value"]);
+    assert.deepEqual(whole, [["value", "a", { x: 2 }]]);
+    last().say(data("/a/x", 3));
+    assert.deepEqual([whole[1], rows.length], [["value", "a", { x: 3 }], 3]);
+    assert.deepEqual(last().take().map(it => it.k), ["listen"]); // the server has the one listen
+    off(ref(db, "a"), "value");
+    assert.deepEqual(wanted.at(-1), [2, 4]);
+    last().say(data("/a", 5));
+    assert.deepEqual(told(ref(db, "a"), ["value"]), [["value", "a", 5]]);
+    assert.deepEqual([db.numbered.size, db.views.size], [1, 1]);
+});
+
+test("a value is told at once of what is known, without a connection too, and a query's in its order", () => {
+    const db = opened(), at = query(ref(db, "a"), orderByValue()), rows = told(at, ["child_added", "child_moved"]);
+    last().say(data("/a", { x: 1, y: 2 }));
+    last().onclose();
+    set(ref(db, "a/x"), 3);
+    const keys = [], stop = onValue(at, it => it.forEach(row => void keys.push(row.key)));
+    assert.deepEqual([rows.length, keys.splice(0)], [3, ["y", "x"]]);
+    stop();
+    onValue(at, it => it.forEach(row => void keys.push(row.key)), { onlyOnce: true });
+    assert.deepEqual(keys.splice(0), ["y", "x"]);
+    passes(1000);
+    last().onopen();
+    assert.deepEqual(last().take().map(it => it.k), ["listen", "put"]);
+    assert.deepEqual([keys, db.numbered.size], [[], 1]);
+});
+
+test("where memory lacks to say what is wanted, the client can't go on", () => {
+    const db = opened(), found = told(ref(db, "a"), ["value"]);
+    db.client.want = () => { throw new DatabaseError("client/NoMemory"); };
+    assert.deepEqual(told(ref(db, "b"), ["child_added"]), ["client/NoMemory"]);
+    assert.deepEqual([found, db.views.size], [["client/NoMemory"], 0]);
+});
+
 test("get", async () => {
     const db = opened(), it = get(child(ref(db, "a"), "b"));
     last().say(data("/a/b", [1, 2]));
@@ -365,7 +406,7 @@ test("the calls of a query", () => {
     assert.deepEqual(asked(orderByKey(), startAt("k"), endBefore("m")), { lower: [null, "before", "k"], order: "key", upper: [null, "before", "m"] });
     assert.deepEqual(asked(orderByKey(), startAfter("k"), endAt("m")), { lower: [null, "after", "k"], order: "key", upper: [null, "after", "m"] });
     assert.deepEqual(asked(limitToFirst(2)), { limit: ["first", 2], order: "key" });
-    assert.deepEqual(asked(by), { lower: [null, "min"], order: d });
+    assert.equal(asked(by), undefined);
     assert.deepEqual(asked(by, startAt(3)), { lower: [3, "min"], order: d });
     assert.deepEqual(asked(by, startAt(3, "k")), { lower: [3, "before", "k"], order: d });
     assert.deepEqual(asked(by, startAfter(true)), { lower: [true, "max"], order: d });

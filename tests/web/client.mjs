@@ -56,7 +56,7 @@ test("what is refused changes nothing", () => {
     refused("tree/NotJson", () => client.set("/a", "{"));
     refused("core/Overlap", () => client.update('{"/a":1,"/a/b":2}'));
     refused("core/EmptyUpdate", () => client.update("{}"));
-    refused("wire/BadField", () => client.listen("/a", '{"order":"/b"}'));
+    refused("wire/BadField", () => client.listen("/a", '{"order":"b"}'));
     refused("core/UnknownListener", () => client.unlisten(7));
     refused("core/NotConnected", () => client.disconnected());
     for (const ring of [0, 65537, 1.5]) refused("client/BadRing", () => new Client(ring));
@@ -94,6 +94,19 @@ test("a client takes little, and as much as is needed", () => {
     assert.deepEqual(batch.changes.at(-1), { k: "value", value: many });
     assert.equal(batch.changes.length, 20001);
     assert.ok(client.memory > 4e6);
+});
+
+test("kinds of changes, and an order alone", () => {
+    const client = new Client(), few = client.listen("/a", '{"order":"value"}');
+    client.want(few, ["added", "removed"]);
+    refused("client/NoKind", () => client.want(few, ["child_added"]));
+    client.connected();
+    assert.deepEqual(sent(client)[1], { k: "listen", path: "/a", tag: 1 });
+    client.receive('{"k":"data","path":"/a","tag":1,"value":{"x":2,"y":1}}');
+    client.set("/a/x", "3");
+    const [first, second] = [...client.items()].filter(it => it.k === "batch").map(it => it.changes);
+    assert.deepEqual(first, [{ after: null, k: "added", key: "y", value: 1 }, { after: "y", k: "added", key: "x", value: 2 }]);
+    assert.deepEqual(second, []);
 });
 
 test("texts beyond the room that each is first given, which is given back", () => {

@@ -8,7 +8,7 @@ import { createServer as createPort } from "node:net";
 import { tmpdir } from "node:os";
 import { Browser } from "./browser.mjs";
 import { PACKAGE, kaltewi, pause, read, until } from "./common.mjs";
-import { tree } from "./tree.mjs";
+import { served, tree } from "./tree.mjs";
 const { Database, ref, set, get, push, remove, update, onValue, onDisconnect, goOffline } = kaltewi;
 
 const { EMULATE, BROWSER, PYTHON, ROOMS, SHOTS } = process.env;
@@ -45,7 +45,7 @@ const port = await new Promise(resolve => {
 const db = `ws://127.0.0.1:${port}/`, at = `http://127.0.0.1:${pages.address().port}`;
 let emulate;
 async function start() {
-    const words = ["emulate", String(port), "--file", `${room}/tree.json`, "--deny", "/secret"];
+    const words = ["emulate", String(port), "--file", `${room}/tree.json`, "--deny", "/secret", "--page", PACKAGE.pathname];
     emulate = spawn(EMULATE, words, { stdio: ["ignore", "ignore", "pipe"], detached: true });
     let said = "";
     emulate.stderr.on("data", it => { said += it; });
@@ -248,6 +248,7 @@ try {
     await tabs(browser);
     await example(browser);
     await tree({ browser, url: `${at}/js/examples/tree/?db=${db}`, node: new Database(db), restart, ok, shots: SHOTS });
+    await served({ browser, url: `http://127.0.0.1:${port}/`, node: new Database(db), ok });
     assert.deepEqual(browser.faults, []);
     ok("no error in a console");
 } catch (why) {

@@ -163,6 +163,21 @@ async function looks(page, node, shots) {
         }
 }
 
+// The page as the emulate itself serves it, which is its server then.
+export async function served({ browser, url, node, ok }) {
+    await set(ref(node, "page"), { a: 1 });
+    const page = await browser.page(`${url}?path=page`);
+    await shows(page, "▾ page {1}", "a 1");
+    await presses(page, "a", "edit");
+    await page.type("2\n");
+    await until("the emulate has what was written", async () => (await get(ref(node, "page/a"))).val() === 2);
+    await page.reload();
+    await shows(page, "▾ page {1}", "a 2");
+    await page.close();
+    ok("bindings/js/examples/tree: at / of the emulate itself");
+    goOffline(node);
+}
+
 export async function tree({ browser, url, node, restart, ok, shots }) {
     await set(ref(node, "page"), { a: { x: 1, y: "t" }, b: true });
     const open = path => browser.page(`${url}&path=${path}`), [page, other] = [await open("page"), await open("page")];

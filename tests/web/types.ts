@@ -1,5 +1,5 @@
 // What the types of the package let through, and what they don't: compiled by tsc, and never run.
-import { Client, Core, type Item } from "kaltewi/client";
+import { Client, Core, KINDS, type Item, type Kind } from "kaltewi/client";
 import {
     type DataSnapshot, type Database, type DatabaseReference, type EventType, type ListenOptions, type OnDisconnect, type Query,
     type QueryConstraint, type ThenableReference, type Unsubscribe, type Value,
@@ -41,7 +41,9 @@ writes().catch((why: unknown) => console.log(why instanceof DatabaseError));
 goOffline(db);
 goOnline(db);
 
-const client = new Client(64);
+const client = new Client(64), kinds: Kind[] = ["added", "removed"];
+client.want(client.listen("/a", '{"order":"/score"}'), kinds);
+console.log(KINDS.value + KINDS[kinds[0]]);
 client.receive('{"k":"ok","id":1}');
 for (const item of client.items() as Iterable<Item>)
     if (item.k === "batch") for (const it of item.changes) console.log(it.k === "removed" ? it.old : it.value);
@@ -57,5 +59,7 @@ startAt({});
 off(best, "moved");
 // @ts-expect-error: constraints alone make a query
 query(scores, "limit");
+// @ts-expect-error: there is no such kind
+client.want(1, ["child_added"]);
 // @ts-expect-error: a snapshot is told, not made
 new DataSnapshot();

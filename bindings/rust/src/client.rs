@@ -196,6 +196,31 @@ impl Iterator for Outgoing<'_> {
     }
 }
 
+/// Kinds of changes: those that are asked for are true.
+#[derive(Clone, Copy, Debug, PartialEq, Eq)]
+pub struct Kinds {
+    /// Children that are there no more.
+    pub removed: bool,
+    /// Children that came.
+    pub added: bool,
+    /// Children that stand elsewhere in the order.
+    pub moved: bool,
+    /// Children whose value is another.
+    pub changed: bool,
+    /// The whole view.
+    pub value: bool,
+}
+
+impl Kinds {
+    /// None of them.
+    pub const NONE: Kinds = Kinds { removed: false, added: false, moved: false, changed: false, value: false };
+
+    // As the header has them.
+    fn bits(self) -> u32 {
+        [self.removed, self.added, self.moved, self.changed, self.value].iter().rev().fold(0, |bits, &it| 2 * bits + u32::from(it))
+    }
+}
+
 /// A seat of a client, which is told of its own listeners and requests.
 ///
 /// Each call answers the number of the new listener or request. Paths are texts as `/a/b`, trees are JSON, and entries are an object of trees
@@ -206,7 +231,8 @@ pub struct Seat<'a> {
 }
 
 impl Seat<'_> {
-    /// Registers a listener. The query is the member `q` of the message that listens; none is all of the path.
+    /// Registers a listener. The query is the member `q` of the message that listens, or an order alone, as `{"order":"/score"}`; none is all of
+    /// the path.
     ///
     /// # Errors
     ///
@@ -228,6 +254,32 @@ impl Seat<'_> {
         self.numbered(|handle, seat, listener| unsafe {
             raw::kw_client_listen(handle, seat, path.as_ptr(), path.len(), q.as_ptr(), q.len(), listener)
         })
+    }
+
+    /// From now on a listener of the seat is told changes of these kinds alone. Without the value a batch costs by what has changed, and not by
+    /// what the listener shows.
+    ///
+    /// # Errors
+    ///
+    /// `WrongSeat`, and `NoMemory`: it is told what it was told.
+    ///
+    /// ```
+    /// # use kaltewi::Kinds;
+    /// # fn main() -> Result<(), kaltewi::Error> {
+    /// let mut client = kaltewi::Client::open(&[8])?;
+    /// let listener = client.seat(1).listen("/a", Some(r#"{"order":"value"}"#))?;
+    /// client.seat(1).want(listener, Kinds { added: true, removed: true, ..Kinds::NONE })?;
+    /// client.connected()?;
+    /// client.receive(r#"{"k":"data","path":"/a","tag":1,"value":{"x":1}}"#)?;
+    /// let told: Vec<String> = client.seat(1).items().collect::<Result<_, _>>()?;
+    /// assert_eq!(told[1], r#"{"changes":[{"after":null,"k":"added","key":"x","value":1}],"k":"batch","listener":1}"#);
+    /// # Ok(())
+    /// # }
+    /// ```
+    pub fn want(&mut self, listener: u64, kinds: Kinds) -> Result<(), Error> {
+        // SAFETY: the handle is the client's own.
+        let status = unsafe { raw::kw_client_want(&mut self.client.handle, self.number, listener, kinds.bits()) };
+        self.client.checked(status)
     }
 
     /// Ends a listener of the seat.

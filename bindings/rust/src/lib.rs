@@ -27,6 +27,6 @@ mod core;
 mod error;
 mod raw;
 
-pub use crate::client::{Client, Items, Outgoing, Seat};
+pub use crate::client::{Client, Items, Kinds, Outgoing, Seat};
 pub use crate::core::{Core, Lines};
 pub use crate::error::Error;

@@ -33,6 +33,7 @@ extern "C" {
         listener: &mut u64,
     ) -> u32;
     pub fn kw_client_unlisten(client: &mut Handle, seat: u64, listener: u64) -> u32;
+    pub fn kw_client_want(client: &mut Handle, seat: u64, listener: u64, kinds: u32) -> u32;
     pub fn kw_client_set(
         client: &mut Handle,
         seat: u64,

@@ -17,5 +17,5 @@ pub use rt_foreign::Handle;
 pub use seat_calls::{
     kw_client_cancel_disconnect, kw_client_listen, kw_client_next, kw_client_on_disconnect,
     kw_client_on_disconnect_update, kw_client_remove, kw_client_set, kw_client_settle,
-    kw_client_unlisten, kw_client_update,
+    kw_client_unlisten, kw_client_update, kw_client_want,
 };

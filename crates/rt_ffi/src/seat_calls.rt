@@ -1,19 +1,21 @@
 // The calls of a client's seats.
 ghost use Rattle.std.specs.Prelude.{◌≡◌, ℕ, Some, Ok};
 ghost use Rattle.rt_world.specs.declared.call.Call.TheVariants as call;
-ghost use Rattle.rt_foreign.specs.Asking.{Asks, AsksFor, Settles, Tells};
+ghost use Rattle.rt_foreign.specs.Asking.{Asks, AsksFor, Settles, Tells, WantsOf};
 ghost use Rattle.rt_ffi.specs.Held.{CallsClient};
 ghost use Rattle.rt_foreign.specs.Reading.{at_end_read, at_end_words, cancel_read, listen_read, order_read};
 ghost use Rattle.rt_foreign.specs.Reading.{removal_read, set_read, update_words};
 ghost use Rattle.rt_foreign.specs.Status as status;
 ghost use Rattle.rt_foreign.specs.Texts.{IsTurnedAway};
+ghost use Rattle.rt_foreign.specs.Wants.{kinds_of};
 
 use rt_client::Call;
 use rt_foreign::{
-    CLOSED, Handle, Held, at_end_call, cancel_call, listen_call, remove_call, set_call,
+    CLOSED, Handle, Held, at_end_call, cancel_call, kinds_of, listen_call, remove_call, set_call,
     update_at_end_call, update_call,
 };
 use rt_lines::LineError;
+use rt_view::Kinds;
 use std::alloc::Global;
 
 // Makes the call that was read for the seat of that number on what a handle holds.
@@ -221,6 +223,38 @@ pub extern "C" fn kw_client_settle(alloc: Global, handle: &mut Handle, seat: u64
         return CLOSED;
     };
     let status = settle_held(&mut held, seat);
+    handle.put(held);
+    status
+}
+
+// From then on batches of a listener are given so, on what a handle holds.
+fn want_held(held: &mut Held, seat: u64, listener: u64, kinds: Kinds) -> u32
+    ensures { CallsClient (result ≡ status.closed)
+        (λ before after. WantsOf seat listener kinds before result after) (Some held.old) (Some held.new) }
+{
+    match held {
+        Held::Client(client) => client.want(seat, listener, kinds),
+        Held::Core(_) => CLOSED,
+    }
+}
+
+/// From then on batches of a listener of the seat are given with changes of these kinds alone.
+#[unsafe(no_mangle)]
+pub extern "C" fn kw_client_want(
+    alloc: Global,
+    handle: &mut Handle,
+    seat: u64,
+    listener: u64,
+    kinds: u32,
+) -> u32
+    ensures { CallsClient (result ≡ status.closed)
+        (λ before after. WantsOf seat listener (kinds_of kinds) before result after)
+        handle.old.loose.value handle.new.loose.value }
+{
+    let Some(mut held) = handle.take(alloc) else {
+        return CLOSED;
+    };
+    let status = want_held(&mut held, seat, listener, kinds_of(kinds));
     handle.put(held);
     status
 }

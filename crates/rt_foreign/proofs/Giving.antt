@@ -23,10 +23,11 @@ use Rattle.rt_foreign.specs.Connection.{GivesTaken, IsHeard, IsUnheard, LooksOut
 use Rattle.rt_foreign.specs.Events.{is_end, step_of_event}
 use Rattle.rt_foreign.specs.Items.{item_text}
 use Rattle.rt_foreign.specs.Looks.{GivesId, GivesKey, Shows}
-use Rattle.rt_foreign.specs.Places.{GivesFirst, GivesNext, looked}
+use Rattle.rt_foreign.specs.Places.{GivesFirst, GivesNext, given, looked}
 use Rattle.rt_foreign.specs.Refusing.{refusal_of, status_of, status_of_outcome}
 use Rattle.rt_foreign.specs.Status as status
 use Rattle.rt_foreign.specs.Texts.{Gives}
+use Rattle.rt_foreign.specs.Wants.{told}
 
 -- ---- the next item of a seat
 
@@ -42,23 +43,23 @@ next_lacks old item had is =
     (inr ((refl, refl, refl), refl))
 
 pub next_given : (old : Place) (item : Item) (had : List ℕ) (result : ℕ) (left : List ℕ) (len : ℕ)
-    → (looked old).first ≡ Some item → Gives (item_text item) had result left len
+    → (looked old).first ≡ Some item → Gives (item_text (told (looked old).wants item)) had result left len
     → (result == status.done) ≡ true
-    → GivesNext old had result (record (looked old) { first = None }) left len
+    → GivesNext old had result (given item (looked old)) left len
 next_given old item had result left len is text done =
-    let after : Place = record (looked old) { first = None } in
+    let after : Place = given item (looked old) in
     subst (λ o. GivesFirst o (looked old) had result after left len) (sym is) (inl (record {
       text = text;
       rest = ap (λ b. if b then after else looked old) (sym done);
     }))
 
 pub next_kept : (old : Place) (item : Item) (had : List ℕ) (result : ℕ) (left : List ℕ) (len : ℕ)
-    → (looked old).first ≡ Some item → Gives (item_text item) had result left len
+    → (looked old).first ≡ Some item → Gives (item_text (told (looked old).wants item)) had result left len
     → (result == status.done) ≡ false → GivesNext old had result (looked old) left len
 next_kept old item had result left len is text not_done =
     subst (λ o. GivesFirst o (looked old) had result (looked old) left len) (sym is) (inl (record {
       text = text;
-      rest = ap (λ b. if b then record (looked old) { first = None } else looked old) (sym not_done);
+      rest = ap (λ b. if b then given item (looked old) else looked old) (sym not_done);
     }))
 
 -- ---- the first message

@@ -5,6 +5,7 @@ use Rattle.std.specs.Prelude.{◌==◌, ◌≢◌, if◌then◌else◌, set, unw
 use Rattle.std.specs.List.{slice_get}
 use Rattle.std.proofs.lemmas.Bool.Decides.{nat_tests}
 use Rattle.std.proofs.lemmas.Option.{slice_get_past, slice_get_read}
+use Rattle.rt_view.specs.declared.kinds.Kinds.{Kinds}
 use Rattle.rt_world.specs.declared.call.Call.{Call}
 use Rattle.rt_client.specs.declared.done.Done.{Done}
 use Rattle.rt_client.specs.declared.error.ClientError.{ClientError}
@@ -12,11 +13,12 @@ use Rattle.rt_client.specs.declared.error.ClientError.TheVariants as client
 use Rattle.rt_client.specs.Calls.{Locked, Seated, MakesCall, RefusesCall}
 use Rattle.rt_client.specs.Settling as settling
 use Rattle.rt_foreign.specs.declared.place.Place.{Place}
-use Rattle.rt_foreign.specs.Asking.{CallsSeat, SettlesSeat, TellsSeat}
+use Rattle.rt_foreign.specs.Asking.{CallsSeat, SettlesSeat, TellsSeat, WantsSeat}
 use Rattle.rt_foreign.specs.Clients.{Client, place_at, unrefused, with_place}
 use Rattle.rt_foreign.specs.Places.{GivesNext}
 use Rattle.rt_foreign.specs.Refusing.{refusal_of, status_of, status_of_outcome}
 use Rattle.rt_foreign.specs.Status as status
+use Rattle.rt_foreign.specs.Wants.{with_want}
 
 -- no seat has a number beyond the last
 pub beyond : (places : List Place) (n : ℕ) → length places ≤ n - 1 → place_at places n ≡ None
@@ -175,3 +177,31 @@ told old n place p after had result left len lt is at gives =
     let new : Client = record (unrefused old) { places = set old.places place after } in
     subst (λ o. TellsSeat o old n had result new left len) (sym (at_place old.places n place p lt is at))
     (after, gives, ap (λ ps. record (unrefused old) { places = ps }) (put_there old.places n place after is))
+
+-- ---- what listeners are told
+
+pub wanted_nowhere : (old : Client) (n listener : ℕ) (kinds : Kinds) → place_at old.places n ≡ None
+    → WantsSeat (place_at old.places n) n old listener kinds status.wrong_seat (unrefused old)
+wanted_nowhere old n listener kinds is =
+    subst (λ o. WantsSeat o n old listener kinds status.wrong_seat (unrefused old)) (sym is) (refl, refl)
+
+pub wanted : (old : Client) (n place listener : ℕ) (kinds : Kinds) (p : Place)
+    → place < length old.places → n ≡ place + 1 → p ≡ get_or old.places place p
+    → WantsSeat (place_at old.places n) n old listener kinds status.done (record (unrefused old) {
+      places = set old.places place (record p { wants = with_want listener kinds p.wants });
+    })
+wanted old n place listener kinds p lt is at =
+    let after : Place = record p { wants = with_want listener kinds p.wants } in
+    let new : Client = record (unrefused old) { places = set old.places place after } in
+    subst (λ o. WantsSeat o n old listener kinds status.done new) (sym (at_place old.places n place p lt is at))
+    (inl (refl, ap (λ ps. record (unrefused old) { places = ps }) (put_there old.places n place after is)))
+
+pub unwanted : (old : Client) (n place listener : ℕ) (kinds : Kinds) (p : Place)
+    → place < length old.places → n ≡ place + 1 → p ≡ get_or old.places place p
+    → WantsSeat (place_at old.places n) n old listener kinds status.no_memory (record (unrefused old) {
+      places = set old.places place p;
+    })
+unwanted old n place listener kinds p lt is at =
+    let new : Client = record (unrefused old) { places = set old.places place p } in
+    subst (λ o. WantsSeat o n old listener kinds status.no_memory new) (sym (at_place old.places n place p lt is at))
+    (inr (refl, ap (λ ps. record (unrefused old) { places = ps }) (put_there old.places n place p is)))

@@ -1,5 +1,6 @@
 -- What calls of a seat make of a client.
 use Rattle.std.specs.Prelude.{◌≡◌, ◌≢◌, ◌⊎◌, ℕ, List, Option, Some, None, Result, Ok, Err, unwrap_or}
+use Rattle.rt_view.specs.declared.kinds.Kinds.{Kinds}
 use Rattle.rt_world.specs.declared.call.Call.{Call}
 use Rattle.rt_client.specs.declared.done.Done.{Done}
 use Rattle.rt_client.specs.declared.error.ClientError.{ClientError}
@@ -13,6 +14,7 @@ use Rattle.rt_foreign.specs.Clients.{Client, place_at, unrefused, with_place}
 use Rattle.rt_foreign.specs.Places.{GivesNext, GivesNothing}
 use Rattle.rt_foreign.specs.Refusing.{refusal_of, refusal_read, status_of, status_of_outcome, status_read}
 use Rattle.rt_foreign.specs.Status as status
+use Rattle.rt_foreign.specs.Wants.{with_want}
 
 -- ---- calls that listen and write
 
@@ -93,6 +95,21 @@ SettlesSeat (Some place) old number result new =
 
 abbrev pub Settles : ℕ → Client → ℕ → Client → Type 0
 Settles number old result new = SettlesSeat (place_at old.places number) old number result new
+
+-- what a listener of the seat is told from then on; where memory lacks for that, it is told what it was told
+abbrev pub WantsSeat : Option Place → ℕ → Client → ℕ → Kinds → ℕ → Client → Type 0
+WantsSeat None number old listener kinds result new = (result ≡ status.wrong_seat) × (new ≡ unrefused old)
+WantsSeat (Some place) number old listener kinds result new =
+    ((result ≡ status.done) × (new ≡ record (unrefused old) {
+      places = with_place number (record place { wants = with_want listener kinds place.wants }) old.places;
+    }))
+    ⊎ ((result ≡ status.no_memory) × (new ≡ record (unrefused old) {
+      places = with_place number place old.places;
+    }))
+
+abbrev pub WantsOf : ℕ → ℕ → Kinds → Client → ℕ → Client → Type 0
+WantsOf number listener kinds old result new =
+    WantsSeat (place_at old.places number) number old listener kinds result new
 
 -- the seat gives its next item; the others stay
 abbrev pub TellsSeat : Option Place → Client → ℕ → List ℕ → ℕ → Client → List ℕ → ℕ → Type 0

@@ -1,5 +1,5 @@
 -- A client with its seats, as C holds it.
-use Rattle.std.specs.Prelude.{ℕ, ◌==◌, ◌-◌, List, length, map, set, if◌then◌else◌, Option, None}
+use Rattle.std.specs.Prelude.{ℕ, ◌==◌, ◌-◌, List, [], length, map, set, if◌then◌else◌, Option, None}
 use Rattle.std.specs.List.{slice_get}
 use Rattle.rt_world.specs.World.{full_limits}
 use Rattle.rt_wire.specs.declared.client.ClientMessage.{ClientMessage}
@@ -16,9 +16,9 @@ pub record Client : Type 0 where
   pub message : Option ClientMessage
   pub refused : Option Refusal
 
--- seats of whose rings nothing was taken
+-- seats of whose rings nothing was taken, and whose listeners are told all
 abbrev pub new_place : Seated → Place
-new_place seat = record { seat = seat; first = None }
+new_place seat = record { seat = seat; first = None; wants = [] }
 
 abbrev pub places_from : List Seated → List Place
 places_from seats = map new_place seats

@@ -1,4 +1,5 @@
--- A seat as C has it: its ring, and the item that was taken out of it and is still to be given.
+-- A seat as C has it: its ring, the item that was taken out of it and is still to be given, and which kinds of
+-- changes its listeners are told.
 use Rattle.std.specs.Prelude.{◌≡◌, ◌⊎◌, ◌==◌, ℕ, List, drop, if◌then◌else◌, Option, Some, None}
 use Rattle.std.specs.List.{slice_get}
 use Rattle.rt_mail.specs.declared.item.Item.{Item}
@@ -7,18 +8,24 @@ use Rattle.rt_foreign.specs.declared.place.Place.{Place}
 use Rattle.rt_foreign.specs.Items.{item_text}
 use Rattle.rt_foreign.specs.Status as status
 use Rattle.rt_foreign.specs.Texts.{Gives}
+use Rattle.rt_foreign.specs.Wants.{after_given, told}
 
 -- the seat without the first item of its ring
 abbrev pub without_first : Seated → Seated
 without_first seat = record seat { ring = record seat.ring { items = drop 1 seat.ring.items } }
 
 -- the first item of the ring is taken out, where none was before
-abbrev pub look_at : Option Item → Seated → Place
-look_at None seat = record { seat = without_first seat; first = slice_get seat.ring.items 0 }
-look_at (Some item) seat = record { seat = seat; first = Some item }
+abbrev pub look_at : Option Item → Place → Place
+look_at None place =
+    record place { seat = without_first place.seat; first = slice_get place.seat.ring.items 0 }
+look_at (Some item) place = record place { first = Some item }
 
 abbrev pub looked : Place → Place
-looked place = look_at place.first place.seat
+looked place = look_at place.first place
+
+-- an item is given, and is gone
+abbrev pub given : Item → Place → Place
+given item place = record place { first = None; wants = after_given place.wants item }
 
 -- nothing is given
 abbrev pub GivesNothing : ℕ → List ℕ → ℕ → List ℕ → ℕ → Type 0
@@ -27,8 +34,8 @@ GivesNothing wanted had result left len = (result ≡ wanted) × (left ≡ had) 
 -- an item is given whole, and then it is gone; or not at all, and then it is still to be had
 pub record GivesItem (item : Item) (place : Place) (had : List ℕ) (result : ℕ) (new : Place)
     (left : List ℕ) (len : ℕ) : Type 0 where
-  pub text : Gives (item_text item) had result left len
-  pub rest : new ≡ (if result == status.done then record place { first = None } else place)
+  pub text : Gives (item_text (told place.wants item)) had result left len
+  pub rest : new ≡ (if result == status.done then given item place else place)
 
 -- the first item of a seat is given, if it has one; memory may lack for its text, and then it stays
 abbrev pub GivesFirst : Option Item → Place → List ℕ → ℕ → Place → List ℕ → ℕ → Type 0

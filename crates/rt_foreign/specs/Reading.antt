@@ -1,9 +1,11 @@
 -- What calls ask for, by the texts that C gives them. A text that isn't UTF-8 is bad; what a layer refuses is
 -- refused by it, from the first text to the last.
-use Rattle.std.specs.Prelude.{ℕ, ◌==◌, List, ◌++◌, length, codes, if◌then◌else◌, Option, Some, None, Result, Ok, Err}
+use Rattle.std.specs.Prelude.{ℕ, ◌==◌, ◌||◌, List, ◌++◌, length, codes, if◌then◌else◌, Option, Some, None, Result, Ok, Err}
+use Rattle.std.specs.Prelude.{is_some, option_and_then}
 use Rattle.std.specs.Option.{option_map_or}
 use Rattle.std.specs.Str.{is_utf8}
 use Rattle.serde_json.specs.Data.{Data as Json}
+use Rattle.serde_json.specs.Find.{as_str, get}
 use Rattle.serde_json.specs.Read.{read}
 use Rattle.rt_tree.specs.declared.error.TreeError.TheVariants.{NotJson}
 use Rattle.rt_tree.specs.PathTree.{Path, PathTree, null}
@@ -99,13 +101,40 @@ listen_words path q =
     codes "{\"k\":\"listen\",\"path\":" ++ json_text path ++ codes ",\"q\":" ++ q ++ codes ",\"tag\":1}"
 
 -- a text that is one JSON value
-abbrev pub json_read : List ℕ → Result (List ℕ) LineError
-json_read text = option_map_or (λ (d : Json). Ok text) (read text) (Err Bad)
+abbrev pub json_read : List ℕ → Result Json LineError
+json_read text = option_map_or (λ (d : Json). Ok d) (read text) (Err Bad)
+
+-- the order of a `q` that has nothing beside it; a message has no such `q`, since it listens to all of the path
+abbrev pub order_alone : Json → Option (List ℕ)
+order_alone q =
+    if is_some (get (codes "limit") q) || is_some (get (codes "lower") q) || is_some (get (codes "upper") q)
+    then None
+    else option_and_then as_str (get (codes "order") q)
+
+-- the same with a limit, as a message has it
+abbrev pub limited_words : List ℕ → List ℕ
+limited_words order = codes "{\"limit\":[\"first\",1],\"order\":" ++ json_text order ++ codes "}"
+
+-- all children of a query's path, in its order
+abbrev pub in_order : Query → Query
+in_order query = record query { range = record { lower = None; upper = None }; limit = None }
+
+-- the query of a path and an order alone
+abbrev pub ordered_read : List ℕ → List ℕ → Result Query LineError
+ordered_read path order =
+    and_then (query_in (listen_words path (limited_words order))) (λ query. Ok (in_order query))
+
+-- the query of a path and a `q`, where that is an order alone, and where it isn't
+abbrev pub asked_read : List ℕ → List ℕ → Option (List ℕ) → Result Query LineError
+asked_read path q None = query_in (listen_words path q)
+asked_read path q (Some order) = ordered_read path order
 
 -- the query of a path and a `q`, which is one JSON value
+abbrev pub filtered_in : List ℕ → List ℕ → Result Query LineError
+filtered_in path text = and_then (json_read text) (λ d. asked_read path text (order_alone d))
+
 abbrev pub filtered_read : List ℕ → List ℕ → Result Query LineError
-filtered_read path bytes =
-    and_then (text_read bytes) (λ text. and_then (json_read text) (λ q. query_in (listen_words path q)))
+filtered_read path bytes = and_then (text_read bytes) (λ text. filtered_in path text)
 
 -- where there is no `q`, it is all of the path
 abbrev pub query_read : List ℕ → List ℕ → Result Query LineError

@@ -6,7 +6,7 @@ ghost use Rattle.rt_client.specs.declared.error.ClientError.TheVariants.{TooMany
 ghost use Rattle.rt_client.specs.Calls.{HasFailed};
 ghost use Rattle.rt_client.specs.Settling.{RefusesCover, ShowsCover};
 ghost use Rattle.rt_lines.specs.Printing.{cover_text};
-ghost use Rattle.rt_foreign.specs.Asking.{AsksFor, CallsSeat, Settles, Tells};
+ghost use Rattle.rt_foreign.specs.Asking.{AsksFor, CallsSeat, Settles, Tells, WantsOf};
 ghost use Rattle.rt_foreign.specs.Clients.{new_client, place_at, places_from, unrefused};
 ghost use Rattle.rt_foreign.specs.Connection.{HearsOf, IsHeard, IsUnheard, LooksOut, Sends};
 ghost use Rattle.rt_foreign.specs.Looks.{GivesKey, GivesWhy, Shows};
@@ -19,8 +19,10 @@ use crate::status::{
     status_of, status_of_outcome, status_read,
 };
 use crate::text::give;
+use crate::wants::Wants;
 use rt_client::{Call, ClientError, Seat, Shared, with_seat};
 use rt_lines::{LineError, Refusal, write_cover};
+use rt_view::Kinds;
 use rt_wire::ClientMessage;
 use rt_world::Limits;
 use std::alloc::{AllocError, Global};
@@ -57,7 +59,12 @@ fn places_of(alloc: Global, seats: Vec<Seat>) -> Result<Vec<Place>, AllocError>
 {
     let mut places = Vec::with_capacity(alloc, seats.len())?;
     for seat in seats {
-        places.push(Place { seat, first: None })?;
+        let wants = Wants::new(alloc);
+        places.push(Place {
+            seat,
+            first: None,
+            wants,
+        })?;
     }
     Ok(places)
 }
@@ -241,6 +248,21 @@ impl Client {
             Ok(()) => DONE,
             Err(why) => self.refuse(why),
         }
+    }
+
+    /// From then on the batches of a listener are given to the seat of that number with these kinds of changes alone.
+    #[tactic(auto, using(crate::proofs::Placing::wanted, crate::proofs::Placing::unwanted))]
+    pub fn want(&mut self, number: u64, listener: u64, kinds: Kinds) -> u32
+        ensures { WantsOf number listener kinds self.old result self.new }
+    {
+        self.refused = None;
+        let Some(place) = place_of(&self.places, number) else {
+            return WRONG_SEAT;
+        };
+        if self.places[place].wants.want(listener, kinds).is_err() {
+            return NO_MEMORY;
+        }
+        DONE
     }
 
     /// Gives the text of the next item of the seat of that number.

@@ -24,6 +24,7 @@ mod reading;
 mod session;
 mod status;
 mod text;
+mod wants;
 
 pub use client::Client;
 pub use event::{Event, message_of};
@@ -40,3 +41,4 @@ pub use status::{
     TOO_SMALL, WRONG_SEAT, status_of,
 };
 pub use text::give;
+pub use wants::{Wants, kinds_of};

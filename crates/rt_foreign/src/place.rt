@@ -2,19 +2,21 @@
 ghost use Rattle.std.specs.Prelude.{◌≡◌, OnOk, IfErr};
 ghost use Rattle.rt_foreign.specs.Places.{GivesNext, looked};
 
-use crate::item::item_text;
 use crate::status::{DONE, NO_MEMORY, NONE};
 use crate::text::give;
+use crate::wants::Wants;
 use rt_client::Seat;
 use rt_mail::Item;
 use std::alloc::Global;
 use std::mem;
 
-/// A seat, and the item that was taken out of its ring and is still to be given.
+/// A seat, the item that was taken out of its ring and is still to be given, and which kinds of changes its
+/// listeners are told.
 #[derive(Drop)]
 pub struct Place {
     pub seat: Seat,
     pub first: Option<Item>,
+    pub wants: Wants,
 }
 
 impl Place {
@@ -38,11 +40,12 @@ impl Place {
         let Some(item) = &self.first else {
             return NONE;
         };
-        let Ok(text) = item_text(alloc, item) else {
+        let Ok(text) = self.wants.text(alloc, item) else {
             return NO_MEMORY;
         };
         let status = give(text.as_str().as_bytes(), out, len);
         if status == DONE {
+            self.wants.forget(item);
             drop(self.first.take());
         }
         status

@@ -1,7 +1,9 @@
 // What a call asks for, by its texts.
-ghost use Rattle.std.specs.Prelude.{◌≡◌, ◌⊎◌, ◌++◌, true, is_some, string_bytes};
-ghost use Rattle.std.specs.Prelude.{IfOk, IfErr, OnOk, Ok, Err, None};
-ghost use Rattle.serde_json.specs.Read.{read};
+ghost use Rattle.std.specs.Prelude.{◌≡◌, ◌⊎◌, ◌++◌, string_bytes};
+ghost use Rattle.std.specs.Prelude.{IfOk, IfErr, OnOk, Ok, Err};
+ghost use Rattle.std.specs.Option.{option_copied};
+ghost use Rattle.serde_json.specs.View.{view};
+ghost use Rattle.rt_foreign.specs.Reading.{in_order, json_read, limited_words, order_alone, ordered_read};
 ghost use Rattle.rt_foreign.specs.Reading.{at_end_words, cancel_read, filtered_read, listen_read};
 ghost use Rattle.rt_foreign.specs.Reading.{listen_words, order_read, path_read, put_read, query_in};
 ghost use Rattle.rt_foreign.specs.Reading.{query_read, removal_read, text_read, tree_read, update_words};
@@ -9,6 +11,7 @@ ghost use Rattle.rt_foreign.specs.Reading as reading;
 
 use crate::item::json_of;
 use rt_lines::{LineError, Order, Refusal};
+use rt_order::Index;
 use rt_query::Query;
 use rt_tree::{Path, Tree, TreeError};
 use rt_wire::{Action, ClientMessage, Ending, WireError};
@@ -148,17 +151,13 @@ pub fn update_at_end_call(alloc: Global, entries: &[u8]) -> Result<Call, LineErr
     line_call(alloc, line.as_slice())
 }
 
-// Whether a text is JSON.
-fn check_json(alloc: Global, text: &str) -> Result<(), LineError>
-    ensures ok { IfOk result (λ _. is_some (read text.now) ≡ true) }
-    ensures fault { IfErr result (λ e. ((e ≡ LineError.Bad) × (read text.now ≡ None))
-        ⊎ (e ≡ LineError.NoMemory)) }
+// The JSON of a text.
+fn json_in(alloc: Global, text: &str) -> Result<Value, LineError>
+    ensures ok { IfOk result (λ value. json_read text.now ≡ Ok (view value)) }
+    ensures fault { IfErr result (λ e. (json_read text.now ≡ Err e) ⊎ (e ≡ LineError.NoMemory)) }
 {
     match Value::from_str(alloc, text) {
-        Ok(value) => {
-            drop(value);
-            Ok(())
-        }
+        Ok(value) => Ok(value),
         Err(error) => {
             if error.is_memory() {
                 Err(LineError::NoMemory)
@@ -166,6 +165,19 @@ fn check_json(alloc: Global, text: &str) -> Result<(), LineError>
                 Err(LineError::Bad)
             }
         }
+    }
+}
+
+// The order of a `q` that has nothing beside it.
+fn order_alone(q: &Value) -> Option<&str>
+    ensures { option_copied result ≡ order_alone (view q.now) }
+{
+    if q.get("limit").is_some() || q.get("lower").is_some() || q.get("upper").is_some() {
+        return None;
+    }
+    match q.get("order") {
+        Some(order) => order.as_str(),
+        None => None,
     }
 }
 
@@ -197,6 +209,51 @@ fn listened(alloc: Global, text: &str) -> Result<Query, LineError>
     }
 }
 
+// The query of a message that listens to that path with that `q`.
+fn listened_with(alloc: Global, path: &str, q: &str) -> Result<Query, LineError>
+    ensures ok { IfOk result (λ query. query_in (listen_words path.now q.now) ≡ Ok query) }
+    ensures fault { IfErr result (λ e.
+        (query_in (listen_words path.now q.now) ≡ Err e) ⊎ (e ≡ LineError.NoMemory)) }
+{
+    let text = listen_text(alloc, path, q)?;
+    listened(alloc, text.as_str())
+}
+
+// A `q` with that order and a limit.
+fn limited_text(alloc: Global, order: &str) -> Result<String, AllocError>
+    ensures { IfOk result (λ text. string_bytes text ≡ limited_words order.now) }
+{
+    let order = json_of(alloc, order)?;
+    format!(in alloc; "{{\"limit\":[\"first\",1],\"order\":{order}}}")
+}
+
+// All children of a query's path, in its order.
+fn in_order(query: &Query) -> Result<Query, LineError>
+    ensures ok { IfOk result (λ all. all ≡ in_order query.now) }
+    ensures fault { IfErr result (λ e. e ≡ LineError.NoMemory) }
+{
+    let mut draft = Query::at(query.path().copy()?);
+    let named = match query.index() {
+        Index::Key => draft.order_by_key(),
+        Index::Value => draft.order_by_value(),
+        Index::Child(path) => draft.order_by_child(path.copy()?),
+    };
+    match named {
+        Ok(()) => Ok(draft.done()),
+        Err(_) => unreachable!(),
+    }
+}
+
+// The query of a path and an order alone.
+fn ordered(alloc: Global, path: &str, order: &str) -> Result<Query, LineError>
+    ensures ok { IfOk result (λ query. ordered_read path.now order.now ≡ Ok query) }
+    ensures fault { IfErr result (λ e. (ordered_read path.now order.now ≡ Err e) ⊎ (e ≡ LineError.NoMemory)) }
+{
+    let q = limited_text(alloc, order)?;
+    let query = listened_with(alloc, path, q.as_str())?;
+    in_order(&query)
+}
+
 // The query of a path and a `q`.
 fn filtered(alloc: Global, path: &[u8], q: &[u8]) -> Result<Query, LineError>
     requires { text_read path.now ≡ Ok path.now }
@@ -205,9 +262,11 @@ fn filtered(alloc: Global, path: &[u8], q: &[u8]) -> Result<Query, LineError>
 {
     let path = text_of(path)?;
     let q = text_of(q)?;
-    check_json(alloc, q)?;
-    let text = listen_text(alloc, path, q)?;
-    listened(alloc, text.as_str())
+    let json = json_in(alloc, q)?;
+    match order_alone(&json) {
+        Some(order) => ordered(alloc, path, order),
+        None => listened_with(alloc, path, q),
+    }
 }
 
 // The query of a path and a `q`; of no `q` it is all of the path.

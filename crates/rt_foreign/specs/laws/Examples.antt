@@ -13,7 +13,7 @@ use Rattle.rt_lines.specs.declared.error.Refusal.TheVariants.{Wire}
 use Rattle.rt_mail.specs.declared.item.Item.TheVariants as told
 use Rattle.rt_mail.specs.declared.receipt.Receipt.TheVariants.{Wrote}
 use Rattle.rt_foreign.specs.Items.{item_text}
-use Rattle.rt_foreign.specs.Reading.{listen_words, query_in}
+use Rattle.rt_foreign.specs.Reading.{filtered_in, listen_words, query_in}
 
 -- ---- items
 
@@ -44,3 +44,12 @@ QueriesAreRead =
     }))
     × (query_in (listen_words (codes "/a") (codes "{\"limit\":[\"last\",0],\"order\":\"value\"}"))
     ≡ Err (Refused (Wire BadField)))
+    × (filtered_in (codes "/a") (codes "{\"order\":\"value\"}")
+    ≡ Ok (record {
+      path = path_keys (codes "/a");
+      index = index.Value;
+      range = record { lower = None; upper = None };
+      limit = None;
+    }))
+    × (filtered_in (codes "/a") (codes "{\"order\":\"no order\"}") ≡ Err (Refused (Wire BadField)))
+    × (filtered_in (codes "/a") (codes "{}") ≡ Err (Refused (Wire BadField)))

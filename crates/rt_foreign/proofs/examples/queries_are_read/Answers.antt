@@ -5,4 +5,4 @@ use Rattle.rt_foreign.proofs.examples.queries_are_read.Goals as goal
 
 pub returns : goal.returns
 unfolding serde_json_on_literals null of_leaf leaf_at
-returns c = (refl, refl)
+returns c = (refl, refl, refl, refl, refl)
