@@ -35,6 +35,7 @@ mod writes;
 use crate::clients::Seats;
 use crate::fault::{Fault, Told};
 use crate::line::Line;
+use crate::lines::Called;
 use anyhow::Error;
 use rt_cache::Brought;
 use rt_client::Client;
@@ -72,8 +73,7 @@ struct State {
     writes: Pending,
 }
 
-impl State {
-    // What there is before the first line.
+impl Called for State {
     fn new(alloc: Global) -> State {
         let changes = ChangeList::of(Vec::new(alloc));
         State {
@@ -98,8 +98,6 @@ impl State {
         }
     }
 
-    // Makes the call of a line, of which the first word is the library, and says what it answers. Where
-    // it lacks memory it has changed nothing, or else has Failed. A delivery may wait, as R may.
     fn call<R: Wait>(&mut self, line: &mut Line) -> Told {
         match line.next() {
             "cache" => cache::call(&mut self.brought, line),
@@ -140,7 +138,7 @@ fn main(rt: HostRuntime) -> ExitCode {
     if let Some(runs) = asked {
         return status_of(&rt, stress::play(&rt, rt.alloc(), runs));
     }
-    match lines::run::<HostRuntime>(rt.alloc(), &mut rt.stdin(), &mut rt.stdout()) {
+    match lines::run::<State, HostRuntime>(rt.alloc(), &mut rt.stdin(), &mut rt.stdout()) {
         Some(()) => ExitCode::SUCCESS,
         None => ExitCode::FAILURE,
     }
