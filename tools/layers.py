@@ -19,7 +19,7 @@ PICTURE, PAGE = "docs/layers.svg", "docs/ARCHITECTURE.md"
 LAYERS = {
     "values": "rt_map rt_tree rt_order rt_push rt_query rt_input rt_chain rt_nodes rt_store",
     "parts of a core": "rt_writes rt_cache rt_forms rt_cover rt_view",
-    "messages": "rt_wire rt_http",
+    "messages": "rt_wire rt_http rt_files",
     "core": "rt_world rt_parts rt_sync",
     "client": "rt_mail rt_client",
     "server": "rt_peer rt_hub",

@@ -184,16 +184,17 @@ pub use rt_tree::Tree;
 ///     children.remove(key)
 /// }
 ///
-/// fn is_last(children: &OrdMap<Key, Tree>, key: &Key) -> bool {
-///     children.last().map_or(false, |(last, _)| last == key)
+/// fn is_alone(children: &OrdMap<Key, Tree>, key: &Key) -> bool {
+///     let is_last = children.last().map_or(false, |(last, _)| last == key);
+///     is_last && children.before(key).is_none()
 /// }
 ///
 /// fn show_children(rt: &impl Print, children: &OrdMap<Key, Tree>, key: &Key) -> Result<()> {
 ///     let first = children.first().map_or("none", |(key, _)| key.text());
 ///     let has_null = children.values().any(|tree| tree.is_null());
 ///     let is_there = children.get(key).is_some() && children.keys().any(|it| it == key);
-///     let is_last = is_last(children, key);
-///     println!(rt; "from {first}: {has_null} {is_there} {is_last}")?;
+///     let is_alone = is_alone(children, key);
+///     println!(rt; "from {first}: {has_null} {is_there} {is_alone}")?;
 ///     Ok(())
 /// }
 ///
