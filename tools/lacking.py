@@ -125,42 +125,6 @@ def in_copies(row, program, library, first, last, room=0):
     return found
 
 
-# ---- of tests
-
-
-TESTS = ("rt_tests", "maps::a_refusal_changes_nothing"), ("rt_tests", "hubs::a_refusal_is_said")
-
-
-def ends_of_test(program, test, library, number):
-    """How a test ended with that allocation refused, and whether there was such an allocation."""
-    given = {**os.environ, "LD_PRELOAD": library, "REFUSED_ALLOCATION": str(number)}
-    ran = subprocess.run([program, test], stdin=subprocess.DEVNULL, capture_output=True, timeout=60, env=given)
-    return ran.returncode, REFUSED in ran.stderr
-
-
-def test_part(copy, crate, test):
-    """Refuses each allocation of a test that looks at what a refusal leaves, or that it is said: it passes each time."""
-    clock = Clock()
-    program = f"{copy}/crates/{crate}/out/{crate}_tests"
-    with tempfile.TemporaryDirectory(prefix="kaltewi-refuse-") as room, concurrent.futures.ThreadPoolExecutor(os.cpu_count()) as pool:
-        library, why = refuser(room)
-        if why or not os.path.exists(program):
-            part(f"{crate}: {test}", why or f"there is no program {crate}_tests")
-            return
-        count, wrong, is_there = 0, [], True
-        while is_there and not wrong:
-            numbers = range(count + 1, count + AT_ONCE + 1)
-            ends = list(pool.map(lambda it: ends_of_test(program, test, library, it), numbers))
-            wrong = [f"allocation {number} refused: status {status}" for number, (status, _) in zip(numbers, ends) if status]
-            count, is_there = count + sum(it for _, it in ends), ends[-1][1]
-    part(f"{crate}: {count} allocations of the test {test} refused, each of them", some_of(wrong, count), clock)
-
-
-def tests_part(copy):
-    for crate, test in TESTS:
-        test_part(copy, crate, test)
-
-
 # ---- of all rows
 
 

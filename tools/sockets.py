@@ -17,6 +17,7 @@ import serving
 import serving_files
 import streams
 import talking
+import telling_who
 import waiting
 import watching
 import workspaces
@@ -52,6 +53,7 @@ def sockets_parts(copy):
         sockets_part("emulate: {} sessions of many clients at once", emulating.wrong_of, programs, room)
         sockets_part("emulate: {} sessions by plain HTTP", asking.wrong_of, programs, room)
         sockets_part("emulate: {} sessions of the files that it serves", serving_files.wrong_of, programs, room)
+        sockets_part("emulate: {} sessions of who is connected", telling_who.wrong_of, programs, room)
         sockets_part("emulate: {} sessions of its file, kills among them", journaling.wrong_of, programs, room)
         sockets_part("serve and connect: {} reads and writes that fail in turn", cutting.wrong_of, programs, room)
         sockets_part("serve and connect: {} sessions of many writes, of which none is lost", handing.wrong_of, programs, room)

@@ -1,7 +1,7 @@
 // The page bindings/js/examples/tree, used by the keyboard alone beside an emulate that tabs.mjs has started.
 import assert from "node:assert/strict";
 import { kaltewi, until } from "./common.mjs";
-const { get, goOffline, ref, remove, set, update } = kaltewi;
+const { get, goOffline, limitToLast, onValue, orderByChild, query, ref, remove, set, update } = kaltewi;
 
 // The rows as they are shown, each with its key and its value.
 const ROWS = "[...document.querySelectorAll('#tree .row')].map(it => [...it.children].slice(0, 2).map(it => it.textContent).join(' ')).join('\\n')";
@@ -136,6 +136,26 @@ async function restarts(page, node, restart) {
     await shows(page, "▾ page {1}", "q 1");
 }
 
+// Those that are connected, each with what it listens to, as they are shown.
+const WHO = "[...document.querySelectorAll('#clients > li')].map(it => it.innerText.replaceAll('\\n', ' | '))";
+const says_of = (page, is) => page.until(`(clients => ${is})(${WHO})`);
+async function connections(page, other, node, url) {
+    const pages = new URL(url).origin;
+    await says_of(page, `clients.filter(it => it.includes(' ${pages} ') && it.includes(' /page')).length === 2`);
+    await says_of(page, `clients.filter(it => it.includes('asks who is connected')).length === 2`);
+    const stop = onValue(query(ref(node, "page/b"), orderByChild("at"), limitToLast(2)), () => {});
+    const best = JSON.stringify('/page/b {"limit":["last",2],"order":"/at"}');
+    for (const it of [page, other]) await says_of(it, `clients.filter(it => it.endsWith(${best})).length === 1`);
+    stop();
+    await says_of(page, `!clients.some(it => it.includes(${best}))`);
+    const count = (await page.run(WHO)).length, bare = new WebSocket(node.url);
+    await says_of(page, `clients.length === ${count + 1} && clients.some(it => /^\\d+ 127\\.0\\.0\\.1:\\d+ \\| listens to nothing$/.test(it))`);
+    assert.equal(await page.run("document.getElementById('whose').textContent"), `Who is connected (${count + 1})`);
+    bare.close();
+    await says_of(page, `clients.length === ${count}`);
+    await goes(page, "it.id === 'clients'");
+}
+
 // What the pictures show.
 const HOUSE = {
     members: { ann: { name: "Ann", here: true }, bob: { name: "Bob", here: false } },
@@ -145,6 +165,8 @@ const HOUSE = {
 };
 async function looks(page, node, shots) {
     await page.until(`${ROWS}.includes("milk 2")`);
+    const stop = onValue(query(ref(node, "house/messages"), orderByChild("by"), limitToLast(10)), () => {});
+    await says_of(page, `clients.some(it => it.endsWith('/house/messages {"limit":["last",10],"order":"/by"}'))`);
     await set(ref(node, "house/members/bob/here"), true);
     await update(ref(node, "house"), { "shopping/bread": null, "messages/m2": { by: "bob", text: "on my way" } });
     await page.until(`${ROWS}.includes("on my way")`);
@@ -161,6 +183,7 @@ async function looks(page, node, shots) {
             const high = await page.run("[...document.querySelectorAll('#tree .row')].map(it => it.offsetHeight)");
             assert.ok(Math.max(...high) < 2 * Math.min(...high), "each row is one line");
         }
+    stop();
 }
 
 // The page as the emulate itself serves it, which is its server then.
@@ -183,6 +206,8 @@ export async function tree({ browser, url, node, restart, ok, shots }) {
     const open = path => browser.page(`${url}&path=${path}`), [page, other] = [await open("page"), await open("page")];
     await changes(page, node);
     ok("bindings/js/examples/tree: what changes is shown, lit and told");
+    await connections(page, other, node, url);
+    ok("bindings/js/examples/tree: who is connected, and what each listens to");
     await edits(page, other, node);
     await other.close();
     ok("bindings/js/examples/tree: values are edited, added, removed and refused, by the keyboard alone, and another tab shows them");

@@ -42,12 +42,13 @@ def masked(data, mask):
 
 
 class Client:
-    """A client over a raw socket: a handshake, masked texts out, texts in. Somebody has to listen."""
+    """A client over a raw socket: a handshake, masked texts out, texts in. Somebody has to listen. It asks for the target, and its head may have more
+    fields."""
 
-    def __init__(self, port, key=b"dGhlIHNhbXBsZSBub25jZQ=="):
+    def __init__(self, port, key=b"dGhlIHNhbXBsZSBub25jZQ==", target=b"/", fields=b""):
         self.socket = socket.create_connection(("127.0.0.1", port), timeout=SECONDS)
         self.stream = self.socket.makefile("rb")
-        head = b"GET / HTTP/1.1\r\nHost: 127.0.0.1\r\nUpgrade: websocket\r\nConnection: Upgrade\r\n"
+        head = b"GET " + target + b" HTTP/1.1\r\nHost: 127.0.0.1\r\nUpgrade: websocket\r\nConnection: Upgrade\r\n" + fields
         self.socket.sendall(head + b"Sec-WebSocket-Version: 13\r\nSec-WebSocket-Key: " + key + b"\r\n\r\n")
         said = b"".join(iter(self.stream.readline, b"\r\n")).lower()
         accept = b"sec-websocket-accept: " + accept_of(key).lower()

@@ -123,6 +123,10 @@ pub use rt_world::Asked;
 ///     peer.message(connection, message)
 /// }
 ///
+/// fn is_listening(peer: &Peer, connection: u64) -> bool {
+///     peer.next_listen(connection, None).is_some()
+/// }
+///
 /// fn sizes(alloc: Global, peer: &Peer, query: &Query) -> Result<[usize; 3], AllocError> {
 ///     let no_entries = Vec::new(alloc);
 ///     let with_none = peer.text_len_with(no_entries.as_slice())?;

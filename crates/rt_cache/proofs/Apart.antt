@@ -22,7 +22,7 @@ use Rattle.rt_query.specs.laws.QueryOrder.{queries_total, takes_in_front, takes_
 use Rattle.rt_query.specs.laws.RangeLaws.{taken_in}
 use Rattle.rt_query.specs.laws.SupplyLaws.{supply_filtered, supplies_as_range}
 use Rattle.rt_cache.specs.Recover.{in_query_order}
-use Rattle.rt_cache.specs.declared.window.Window.{Window}
+use Rattle.rt_cache.specs.declared.windows.Window.{Window}
 use Rattle.rt_cache.specs.inside.ByPath.{by_whole, AreByQuery, AreApart, query_of, is_other_supplier}
 use Rattle.rt_cache.specs.inside.Held.{entries_of}
 use Rattle.rt_cache.specs.inside.Sources.{HaveForms}

@@ -16,8 +16,8 @@ use Rattle.rt_query.specs.laws.SupplyLaws.{supplied_is_filtered}
 use Rattle.rt_query.specs.QueryOrder.{query_cmp}
 use Rattle.rt_cache.specs.Brought.{Window, Brought, region_part, window_of, source, base, knows, child_base, is_without_window, is_another_at, may_move}
 use Rattle.rt_cache.specs.Recover.{in_query_order}
-use Rattle.rt_cache.specs.declared.region.Region.{Region}
-use Rattle.rt_cache.specs.declared.window.Window as inside
+use Rattle.rt_cache.specs.declared.regions.Region.{Region}
+use Rattle.rt_cache.specs.declared.windows.Window as inside
 use Rattle.rt_cache.specs.inside.Held.{pairs_of, entries_of, held}
 use Rattle.rt_cache.specs.inside.Sources.{source_among}
 use Rattle.rt_cache.proofs.Listing.{find-listed}

@@ -30,8 +30,8 @@ use Rattle.rt_cache.specs.Brought.{Window, Brought, nothing_brought, with_form, 
 use Rattle.rt_cache.specs.Canonical.{IsCanonical, FitsLevels, Belongs}
 use Rattle.rt_cache.specs.Recover.{reaches, regions_kept, in_query_order, is_among, cut, is_lost, heirs, handed_on, recover}
 use Rattle.rt_cache.specs.declared.run.Call.TheVariants.{Put, Recover}
-use Rattle.rt_cache.specs.declared.region.Region.{Region}
-use Rattle.rt_cache.specs.declared.window.Window as inside
+use Rattle.rt_cache.specs.declared.regions.Region.{Region}
+use Rattle.rt_cache.specs.declared.windows.Window as inside
 use Rattle.rt_cache.specs.inside.Held.{held, entries_of, pairs_of, pushed_windows}
 use Rattle.rt_cache.specs.inside.Sources.{HaveForms}
 use Rattle.rt_cache.proofs.Among.{any_with}

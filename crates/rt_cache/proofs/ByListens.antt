@@ -10,7 +10,7 @@ use Rattle.rt_tree.specs.Assignments.{do_overlap, have_overlap}
 use Rattle.rt_query.specs.Queries.{Query, is_filtered}
 use Rattle.rt_cache.specs.Brought.{region_part}
 use Rattle.rt_cache.specs.Recover.{reaches, parts_of, plain_spots, with_regions}
-use Rattle.rt_cache.specs.declared.region.Region.{Region}
+use Rattle.rt_cache.specs.declared.regions.Region.{Region}
 use Rattle.rt_cache.specs.inside.Held.{pair_of, pairs_of}
 use Rattle.rt_cache.specs.inside.Cuts.{part_below, parts_left}
 use Rattle.rt_cache.proofs.Changes.{with_sorted}

@@ -6,9 +6,9 @@ use Rattle.std.specs.declared.result.Result.TheVariants.{Ok}
 use Rattle.rt_tree.specs.PathTree.{Path, PathTree}
 use Rattle.rt_query.specs.Queries.{Query}
 use Rattle.rt_cache.specs.Recover.{reaches, with_regions, EndsForms}
-use Rattle.rt_cache.specs.declared.region.Region.{Region}
-use Rattle.rt_cache.specs.declared.spans.Span.{Span}
-use Rattle.rt_cache.specs.declared.window.Window.{Window}
+use Rattle.rt_cache.specs.declared.regions.Region.{Region}
+use Rattle.rt_cache.specs.declared.by_path.Span.{Span}
+use Rattle.rt_cache.specs.declared.windows.Window.{Window}
 use Rattle.rt_cache.specs.inside.Cuts.{part_below, IsCut}
 use Rattle.rt_cache.specs.inside.Handing.{window_queries, AreThose, AreHanded}
 use Rattle.rt_cache.specs.inside.Held.{pairs_of, entries_of, held}

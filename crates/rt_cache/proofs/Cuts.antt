@@ -11,7 +11,7 @@ use Rattle.rt_tree.specs.Assignments.{is_at_or_above, do_overlap, have_overlap}
 use Rattle.rt_query.specs.Queries.{Query, is_filtered}
 use Rattle.rt_cache.specs.Recover.{plain_spots, reaches, part_for, parts_of, with_regions}
 use Rattle.rt_cache.specs.Brought.{region_part}
-use Rattle.rt_cache.specs.declared.region.Region.{Region}
+use Rattle.rt_cache.specs.declared.regions.Region.{Region}
 use Rattle.rt_cache.specs.inside.Held.{pair_of, pairs_of}
 use Rattle.rt_cache.proofs.Places.{or_left, or_right, or_false, comparable, none_above, first_not}
 use Rattle.rt_cache.proofs.Strips.{some_of}

@@ -13,7 +13,7 @@ use Rattle.rt_query.specs.Queries.{Query, is_filtered}
 use Rattle.rt_query.specs.laws.SupplyLaws.{same_tests}
 use Rattle.rt_cache.specs.Brought.{region_part}
 use Rattle.rt_cache.specs.Recover.{reaches, parts_of, with_regions, is_under_lost, EndsForms}
-use Rattle.rt_cache.specs.declared.region.Region.{Region}
+use Rattle.rt_cache.specs.declared.regions.Region.{Region}
 use Rattle.rt_cache.specs.inside.Cuts.{part_below, parts_left}
 use Rattle.rt_cache.specs.inside.Held.{pair_of, pairs_of}
 use Rattle.rt_cache.proofs.Among.{any_passing}

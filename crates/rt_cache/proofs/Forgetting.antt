@@ -15,7 +15,7 @@ use Rattle.rt_query.specs.laws.QueryEq.{query_eq_tells}
 use Rattle.rt_query.specs.QueryOrder.{query_cmp}
 use Rattle.rt_cache.specs.Brought.{Window, window_of}
 use Rattle.rt_cache.specs.Recover.{in_query_order, is_among}
-use Rattle.rt_cache.specs.declared.window.Window as inside
+use Rattle.rt_cache.specs.declared.windows.Window as inside
 use Rattle.rt_cache.specs.inside.ByPath.{by_query, AreByPath}
 use Rattle.rt_cache.specs.inside.Held.{seen_window, entries_of}
 use Rattle.rt_cache.proofs.ByPaths.{query_ranks}

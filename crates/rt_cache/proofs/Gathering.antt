@@ -23,10 +23,10 @@ use Rattle.rt_query.specs.laws.RangeLaws.{taken_in}
 use Rattle.rt_query.specs.laws.SupplyLaws.{same_tests, supply_filtered, supplied_has_path}
 use Rattle.rt_query.specs.QueryOrder.{query_cmp}
 use Rattle.rt_cache.specs.Recover.{in_query_order, is_among}
-use Rattle.rt_cache.specs.declared.region.Region.{Region}
-use Rattle.rt_cache.specs.declared.registered.Form.{Form}
-use Rattle.rt_cache.specs.declared.spans.Span.{Span}
-use Rattle.rt_cache.specs.declared.window.Window.{Window}
+use Rattle.rt_cache.specs.declared.regions.Region.{Region}
+use Rattle.rt_cache.specs.declared.forms.Form.{Form}
+use Rattle.rt_cache.specs.declared.by_path.Span.{Span}
+use Rattle.rt_cache.specs.declared.windows.Window.{Window}
 use Rattle.rt_cache.specs.inside.Cuts.{IsCut}
 use Rattle.rt_cache.specs.inside.Handing.{window_queries, is_alike, is_staying, staying_of, is_region_lost, is_window_lost, is_loser, is_under_one, is_under_lost_one, hands_on, is_beside_one, is_supplied_by_one, is_near_one, AreGathered}
 use Rattle.rt_cache.specs.inside.Held.{pairs_of, entry_of, entries_of}

@@ -12,7 +12,7 @@ use Rattle.std.specs.FinMap as map_of
 use Rattle.std.specs.FinMap.Entries.{below_all}
 use Rattle.rt_tree.specs.PathTree.{Path, PathTree, path_cmp, paths_total, key_cmp, key_eq, key_eq-is, key_eq-symm, strip}
 use Rattle.rt_tree.specs.Assignments.{is_at_or_above, do_overlap, have_overlap}
-use Rattle.rt_cache.specs.declared.region.Region.{Region}
+use Rattle.rt_cache.specs.declared.regions.Region.{Region}
 use Rattle.rt_cache.specs.inside.Held.{pairs_of}
 use Rattle.rt_cache.specs.Brought.{region_part}
 use Rattle.rt_cache.proofs.Places.{or_left, or_right, or_false, unseen}

@@ -9,7 +9,7 @@ use Rattle.std.specs.FinMap.Entries.{by_order}
 use Rattle.std.proofs.lemmas.List.Sums.{position_or_len_is}
 use Rattle.rt_tree.specs.PathTree.{Path, PathTree, path_cmp, path_eq, path_eq-is, strip, strip-append}
 use Rattle.rt_tree.specs.Assignments.{is_at_or_above}
-use Rattle.rt_cache.specs.declared.region.Region.{Region}
+use Rattle.rt_cache.specs.declared.regions.Region.{Region}
 use Rattle.rt_cache.specs.inside.Held.{pair_of, pairs_of}
 use Rattle.rt_cache.proofs.Places.{or_left, or_right}
 

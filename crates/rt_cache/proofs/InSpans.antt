@@ -6,7 +6,7 @@ use Rattle.std.proofs.lemmas.List.Elements.{All-nil, All-cons, All-head, All-tai
 use Rattle.std.proofs.lemmas.List.Folds.{drop_split, list_any-append, list_any_none}
 use Rattle.std.specs.List.Sorted.{IsNonDecreasingBy}
 use Rattle.std.specs.List.{All, filter, flat_map, slice_range, remove_range}
-use Rattle.rt_cache.specs.declared.spans.Span.{Span}
+use Rattle.rt_cache.specs.declared.by_path.Span.{Span}
 use Rattle.rt_cache.specs.inside.Spans.{has_place, have_place, AreInOrder, AreFilled, IsLastBefore, without}
 
 -- ---- one span

@@ -11,7 +11,7 @@ use Rattle.rt_query.specs.QueryEq.{query_eq}
 use Rattle.rt_query.specs.QueryOrder.{query_cmp}
 use Rattle.rt_cache.specs.Brought.{Window}
 use Rattle.rt_cache.specs.Recover.{in_query_order, is_among}
-use Rattle.rt_cache.specs.declared.window.Window as inside
+use Rattle.rt_cache.specs.declared.windows.Window as inside
 use Rattle.rt_cache.specs.inside.Held.{seen_window, entry_of, entries_of, for_each}
 use Rattle.rt_cache.proofs.Listing.{Listed}
 use Rattle.rt_query.specs.laws.QueryOrder.{queries_total, exact_queries, tie_is_eq}

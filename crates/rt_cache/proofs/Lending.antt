@@ -21,9 +21,9 @@ use Rattle.rt_query.specs.laws.QueryEq.{query_eq_tells}
 use Rattle.rt_cache.specs.Brought.{region_part}
 use Rattle.rt_cache.specs.Recover.{reaches, regions_kept, is_among}
 use Rattle.rt_cache.specs.declared.by_path.Lent.{Lent}
-use Rattle.rt_cache.specs.declared.region.Region.{Region}
-use Rattle.rt_cache.specs.declared.spans.Span.{Span}
-use Rattle.rt_cache.specs.declared.window.Window.{Window}
+use Rattle.rt_cache.specs.declared.regions.Region.{Region}
+use Rattle.rt_cache.specs.declared.by_path.Span.{Span}
+use Rattle.rt_cache.specs.declared.windows.Window.{Window}
 use Rattle.rt_cache.specs.inside.ByPath.{AreByQuery}
 use Rattle.rt_cache.specs.inside.Cuts.{parts_left, IsCut}
 use Rattle.rt_cache.specs.inside.Handing.{lent_queries, window_queries, is_alike, is_region_lost, is_supplied_by_one, AreThose}

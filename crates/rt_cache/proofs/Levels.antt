@@ -31,11 +31,11 @@ use Rattle.rt_cache.specs.Brought.{child_base}
 use Rattle.rt_cache.specs.Canonical.{FitsLevels}
 use Rattle.rt_cache.specs.Recover.{reaches, part_for, parts_of, is_among, window_left}
 use Rattle.rt_cache.specs.Recover.{in_query_order, cut, heirs, handed_on, recover}
-use Rattle.rt_cache.specs.declared.region.Region.{Region}
-use Rattle.rt_cache.specs.declared.window.Window as inside
+use Rattle.rt_cache.specs.declared.regions.Region.{Region}
+use Rattle.rt_cache.specs.declared.windows.Window as inside
 use Rattle.rt_cache.specs.inside.Held.{held, pairs_of, entries_of, pushed_windows, AreShort}
 use Rattle.rt_cache.specs.inside.Sources.{source_among}
-use Rattle.rt_cache.specs.declared.spans.Span.{Span}
+use Rattle.rt_cache.specs.declared.by_path.Span.{Span}
 use Rattle.rt_cache.specs.inside.Spans.{has_place, have_place}
 use Rattle.rt_cache.proofs.Heirs.{heir_is, handed_all}
 use Rattle.rt_cache.proofs.Pushes.{push_of_filtered, push_of_plain}

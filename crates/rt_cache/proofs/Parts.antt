@@ -15,7 +15,7 @@ use Rattle.rt_tree.specs.Assignments.{is_at_or_above, do_overlap, have_overlap}
 use Rattle.rt_query.specs.Queries.{Query}
 use Rattle.rt_cache.specs.Brought.{region_part}
 use Rattle.rt_cache.specs.Recover.{reaches, parts_of, plain_spots, with_regions, regions_kept}
-use Rattle.rt_cache.specs.declared.region.Region.{Region}
+use Rattle.rt_cache.specs.declared.regions.Region.{Region}
 use Rattle.rt_cache.specs.inside.Cuts.{parts_left}
 use Rattle.rt_cache.specs.inside.Held.{pairs_of}
 use Rattle.rt_cache.proofs.Changes.{with_sorted, with_apart}

@@ -6,7 +6,7 @@ use Rattle.std.specs.Option.{option_map, option_map_or, option_or}
 use Rattle.rt_tree.specs.PathTree.{Path, PathTree, strip, strip-some, strip-crossed, sub, put}
 use Rattle.rt_tree.specs.Assignments.{is_at_or_above, do_overlap, have_overlap}
 use Rattle.rt_cache.specs.Brought.{region_part, region_put}
-use Rattle.rt_cache.specs.declared.region.Region.{Region}
+use Rattle.rt_cache.specs.declared.regions.Region.{Region}
 use Rattle.rt_cache.specs.inside.Held.{pair_of, pairs_of}
 use Rattle.rt_cache.proofs.Strips.{some_of}
 

@@ -11,8 +11,8 @@ use Rattle.rt_query.specs.Queries.{Query, is_filtered}
 use Rattle.rt_cache.specs.Brought.{Brought, region_part, region_put, windows_pushed, window_of, push_plain, push, is_without_window}
 use Rattle.rt_cache.specs.Canonical.{IsCanonical}
 use Rattle.rt_cache.specs.Recover.{in_query_order}
-use Rattle.rt_cache.specs.declared.region.Region.{Region}
-use Rattle.rt_cache.specs.declared.window.Window as inside
+use Rattle.rt_cache.specs.declared.regions.Region.{Region}
+use Rattle.rt_cache.specs.declared.windows.Window as inside
 use Rattle.rt_cache.specs.inside.Held.{pair_of, pairs_of, entries_of, held, pushed_windows, is_taken}
 use Rattle.rt_cache.proofs.Places.{put_at, part_is}
 use Rattle.rt_cache.proofs.Stays.{push_stays}

@@ -24,7 +24,7 @@ use Rattle.rt_query.specs.laws.SupplyLaws.{same_tests, form_filtered}
 use Rattle.rt_query.specs.QueryOrder.{query_cmp}
 use Rattle.rt_cache.specs.Brought.{Window, Brought, Base, region_part, window_of, source, base, knows}
 use Rattle.rt_cache.specs.Recover.{in_query_order}
-use Rattle.rt_cache.specs.declared.window.Window as inside
+use Rattle.rt_cache.specs.declared.windows.Window as inside
 use Rattle.rt_cache.specs.inside.Held.{entry_of, entries_of}
 use Rattle.rt_cache.specs.inside.Sources.{source_among, HaveForms}
 use Rattle.rt_cache.proofs.Among.{any_with}

@@ -9,7 +9,7 @@ use Rattle.std.proofs.lemmas.List.Kept.{AllPairs-filter}
 use Rattle.rt_tree.specs.PathTree.{Path, path_cmp, path_eq-is}
 use Rattle.rt_tree.specs.TreeEq.{both_first, both_second, both}
 use Rattle.rt_query.specs.laws.NeededLaws.{Contains-filter}
-use Rattle.rt_cache.specs.declared.registered.Form.{Form}
+use Rattle.rt_cache.specs.declared.forms.Form.{Form}
 use Rattle.rt_cache.specs.inside.ByPath.{AreByPath}
 use Rattle.rt_cache.specs.inside.Listed.{form_query, stands_at, is_filtered_at, is_same_form, is_form_before, AreFilteredOf}
 use Rattle.rt_cache.proofs.ByPaths.{befores_first, up_to_first, not_itself, none_of, neither_before}

@@ -16,7 +16,7 @@ use Rattle.rt_query.specs.laws.NeededLaws.{Contains-filter, Contains-from_filter
 use Rattle.rt_query.specs.laws.QueryEq.{query_eq_tells}
 use Rattle.rt_query.specs.laws.SupplyLaws.{same_tests}
 use Rattle.rt_cache.specs.Recover.{is_among}
-use Rattle.rt_cache.specs.declared.registered.Form.{Form}
+use Rattle.rt_cache.specs.declared.forms.Form.{Form}
 use Rattle.rt_cache.specs.inside.ByPath.{AreByPath}
 use Rattle.rt_cache.specs.inside.Listed.{form_query, queries_of, stands_at, is_filtered_at, is_same_form, AreFilteredOf}
 use Rattle.rt_cache.proofs.Among.{any_agreeing, any_with}

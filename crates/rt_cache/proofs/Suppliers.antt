@@ -20,8 +20,8 @@ use Rattle.rt_query.specs.laws.SupplyLaws.{same_tests, form_filtered, supplied_h
 use Rattle.rt_query.specs.QueryOrder.{query_cmp}
 use Rattle.rt_cache.specs.Brought.{Window, is_another_at}
 use Rattle.rt_cache.specs.Recover.{in_query_order}
-use Rattle.rt_cache.specs.declared.registered.Form.{Form}
-use Rattle.rt_cache.specs.declared.window.Window as inside
+use Rattle.rt_cache.specs.declared.forms.Form.{Form}
+use Rattle.rt_cache.specs.declared.windows.Window as inside
 use Rattle.rt_cache.specs.inside.ByPath.{AreByPath, is_other_supplier}
 use Rattle.rt_cache.specs.inside.Held.{entry_of, entries_of}
 use Rattle.rt_cache.specs.inside.Listed.{form_query, queries_of}

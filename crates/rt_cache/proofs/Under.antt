@@ -11,8 +11,8 @@ use Rattle.std.specs.Ordering.{is_lt, ordering_reverse}
 use Rattle.std.specs.FinMap as map_of
 use Rattle.rt_tree.specs.PathTree.{Path, path_cmp, paths_total, exact_paths, strip, strip-append}
 use Rattle.rt_tree.specs.Assignments.{is_at_or_above}
-use Rattle.rt_cache.specs.declared.region.Region.{Region}
-use Rattle.rt_cache.specs.declared.spans.Span.{Span}
+use Rattle.rt_cache.specs.declared.regions.Region.{Region}
+use Rattle.rt_cache.specs.declared.by_path.Span.{Span}
 use Rattle.rt_cache.specs.inside.Held.{pairs_of}
 use Rattle.rt_cache.specs.inside.Spans.{has_place}
 use Rattle.std.proofs.lemmas.List.Sorted.{sorted_far}

@@ -1,22 +1,30 @@
 -- Pushes on filtered queries.
-use Rattle.std.proofs.Common.{◌≡◌, ℕ, zero, suc, ◌<◌, arith, length, set, get_or, Bool, true, false, not, ◌||◌, List, [], ◌∷◌, append-nil, refl, sym, ap, ◌∙◌, Option, Some, None, is_some, OnErr}
+use Rattle.std.proofs.Common.{◌≡◌, ℕ, zero, suc, ◌<◌, arith, length, set, get_or, Bool, true, false, not, ◌||◌, List, [], ◌∷◌, append-nil, refl, sym, ap, cond, ◌∙◌, Option, Some, None, is_some, OnErr}
 use mathlib.Core.Bool.{true≢false}
 use Rattle.std.specs.List.{filter}
 use Rattle.std.specs.Option.{option_map_or}
 use Rattle.std.specs.declared.result.Result.{Result}
 use Rattle.std.specs.declared.result.Result.TheVariants.{Ok, Err}
+use Rattle.std.specs.Ordering.{eq_by_cmp}
 use Rattle.std.specs.FinMap as map_of
+use Rattle.std.specs.FinMap.Entries.{find-put}
+use Rattle.std.proofs.lemmas.List.{get_or_default}
 use Rattle.rt_tree.specs.PathTree.{Path, PathTree, path_eq, path_eq-is, path_eq-symm, path_eq-same, strip, strip-append, strip-some, put, children_alone}
 use Rattle.rt_tree.specs.Assignments.{is_at_or_above}
 use Rattle.rt_query.specs.Queries.{Query}
 use Rattle.rt_query.specs.QueryEq.{query_eq}
 use Rattle.rt_query.specs.Supply.{does_supply}
 use Rattle.rt_query.specs.QueryOrder.{query_cmp}
+use Rattle.rt_query.specs.laws.QueryEq.{query_eq_tells}
+use Rattle.rt_query.specs.laws.QueryOrder.{queries_total, tie_is_eq}
 use Rattle.rt_cache.specs.Brought.{Window, window_of, window_pushed, windows_pushed}
 use Rattle.rt_cache.specs.Recover.{in_query_order}
-use Rattle.rt_cache.specs.declared.window.Window as inside
+use Rattle.rt_cache.specs.declared.windows.Window as inside
 use Rattle.rt_cache.specs.inside.Held.{seen_window, entry_of, entries_of, pushed_windows, is_taken}
+use Rattle.rt_cache.specs.inside.Sources.{AreAlone}
+use Rattle.rt_cache.proofs.InSpans.{filter_all}
 use Rattle.rt_cache.proofs.Listing.{Listed, find-listed, find-at}
+use Rattle.rt_cache.proofs.Sources.{there_found, apart_found}
 
 pub on_err_of : {A E : Type 0} (r : Result A E) (P : Type 0) → P → OnErr r P
 on_err_of (Ok x) P p = tt
@@ -36,6 +44,35 @@ pushed_own q p u ws e = ap (λ o. option_map_or (λ rest. windows_pushed q rest 
 
 pub taken_own : (q : Query) (p : Path) (ws : Listed) → path_eq p q.path ≡ true → true ≡ is_taken q p ws
 taken_own q p ws e = ap (λ b. b || is_some (window_of ws q)) (sym (path_eq-symm q.path p ∙ e))
+
+-- a query that has one of some windows that are apart supplies no other one of them: so all stay beside it
+pub put_beside : (q : Query) (w : Window) (es : Listed) → AreAlone es → is_some (map_of.find query_cmp q es) ≡ true
+    → map_of.put query_cmp q w es ≡ filter (λ (e : Query × Window). query_eq e.0 q || not (does_supply q e.0)) (map_of.put query_cmp q w es)
+put_beside q w es alone has =
+    sym (filter_all (λ (e : Query × Window). query_eq e.0 q || not (does_supply q e.0)) (map_of.put query_cmp q w es)
+    (λ k d lt. each (get_or (map_of.put query_cmp q w es) k d)
+    (there_found (get_or (map_of.put query_cmp q w es) k d) (map_of.put query_cmp q w es)
+    (k, lt, get_or_default (map_of.put query_cmp q w es) k (get_or (map_of.put query_cmp q w es) k d) d lt))))
+  where
+    or_true : (b : Bool) → (b || true) ≡ true
+    or_true true = refl
+    or_true false = refl
+
+    own : (e : Query × Window) → e.0 ≡ q → (query_eq e.0 q || not (does_supply q e.0)) ≡ true
+    own e is = ap (λ b. b || not (does_supply q e.0)) ((query_eq_tells e.0 q).1 is)
+
+    other : (e : Query × Window) → is_some (map_of.find query_cmp e.0 es) ≡ true → (b : Bool) → does_supply q e.0 ≡ b
+        → (query_eq e.0 q || not (does_supply q e.0)) ≡ true
+    other e there true s = own e (sym (apart_found es alone q e.0 has there s))
+    other e there false s = ap (λ b. query_eq e.0 q || not b) s ∙ or_true (query_eq e.0 q)
+
+    each : (e : Query × Window) → is_some (map_of.find query_cmp e.0 (map_of.put query_cmp q w es)) ≡ true → (query_eq e.0 q || not (does_supply q e.0)) ≡ true
+    each e there = at (eq_by_cmp query_cmp e.0 q) refl (sym (ap is_some (find-put query_cmp queries_total e.0 q w es)) ∙ there)
+      where
+        at : (b : Bool) → eq_by_cmp query_cmp e.0 q ≡ b → is_some (cond b (Some w) (map_of.find query_cmp e.0 es)) ≡ true
+            → (query_eq e.0 q || not (does_supply q e.0)) ≡ true
+        at true t f = own e ((query_eq_tells e.0 q).0 (sym (tie_is_eq e.0 q) ∙ t))
+        at false t f = other e f (does_supply q e.0) refl
 
 -- ---- below it
 

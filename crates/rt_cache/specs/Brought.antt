@@ -11,7 +11,7 @@ use Rattle.rt_query.specs.Queries.{Query, is_filtered}
 use Rattle.rt_query.specs.QueryEq.{query_eq}
 use Rattle.rt_query.specs.Supply.{does_supply}
 use Rattle.rt_query.specs.QueryOrder.{query_cmp}
-pub use Rattle.rt_cache.specs.declared.base.Base.{Base}
+pub use Rattle.rt_cache.specs.declared.brought.Base.{Base}
 
 -- known children of a filtered query; whole where they are all that its path has
 pub record Window : Type 0 where

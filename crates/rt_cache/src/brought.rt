@@ -1,9 +1,8 @@
 // What the listens brought.
-ghost use Rattle.std.specs.Prelude.{◌≡◌, ◌+◌, ◌<◌, ◌≤◌, T, true, false, not, length, IfOk, IfSome};
-ghost use Rattle.std.specs.Prelude.{◌++◌, ◌∷◌, [], List, None, IsOk, OnOk, OnErr};
+ghost use Rattle.std.specs.Prelude.{◌≡◌, ◌+◌, ◌<◌, ◌≤◌, T, true, false, not, length, IfOk, IfSome, ◌++◌, ◌∷◌};
+ghost use Rattle.std.specs.Prelude.{[], List, None, IsOk, OnOk, OnErr};
 ghost use Rattle.std.specs.List.{All, AllPairs, Contains};
 ghost use Rattle.std.specs.Option.{option_copied};
-ghost use Rattle.std.specs.FinMap as map_of;
 ghost use Rattle.rt_tree.specs.PathTree.{PathTree, path_cmp, levels};
 ghost use Rattle.rt_tree.specs.Assignments.{is_at_or_above, have_overlap};
 ghost use Rattle.rt_query.specs.Queries.{Query};
@@ -12,16 +11,15 @@ ghost use Rattle.rt_cache.specs.Canonical.{IsCanonical, Belongs};
 ghost use Rattle.rt_cache.specs.Recover.{do_plains_overlap, recover, without_places, EndsForms};
 ghost use Rattle.rt_cache.specs.inside.ByPath.{AreByQuery, query_of};
 ghost use Rattle.rt_cache.specs.inside.Held.{pairs_of, held};
-ghost use Rattle.rt_cache.specs.Brought.{nothing_brought, base, base_child, knows, push_plain};
-ghost use Rattle.rt_cache.specs.Brought.{with_form, may_put, push, is_without_window, source, may_move};
+ghost use Rattle.rt_cache.specs.Brought.{nothing_brought, base, base_child, knows, push_plain, with_form};
+ghost use Rattle.rt_cache.specs.Brought.{may_put, push, is_without_window, source, may_move};
+ghost use Rattle.std.specs.FinMap as map_of;
 
-use crate::base::Base;
 use crate::by_path::{has_another_at, has_supplier};
-use crate::region::BoxedRegion;
-use crate::registered::Forms;
-use crate::trees::child_of;
-use crate::window::BoxedWindow;
-use crate::{recover, regions, windows};
+use crate::forms::Forms;
+use crate::recovery;
+use crate::regions::{self, BoxedRegion, child_of};
+use crate::windows::{self, BoxedWindow};
 use rt_query::Query;
 use rt_tree::{Key, MAX_LEVELS, Path, Tree};
 use std::alloc::{AllocError, Global};
@@ -153,9 +151,9 @@ impl Brought {
     /// Finds the region by halving, where keys that the path shares with all regions that are left
     /// are not compared again, or the window by halving,
     /// and then costs by the path and the tree that is put. A new window moves a pointer of each of those
-    /// behind it. A push at the path of a range without a limit looks at those of them at that path. A push that begins a region finds those that it takes in by
-    /// halving, drops them, and moves a pointer of each of the regions and windows behind it. No other
-    /// tree is walked.
+    /// behind it, and of a range without a limit it looks at those of them at its path. A push that begins
+    /// a region finds those that it takes in by halving, drops them, and moves a pointer of each of the
+    /// regions and windows behind it. No other tree is walked.
     ///
     /// An `Err` is want of memory, and changes nothing. A stale push takes none.
     pub fn put(&mut self, query: &Query, path: &Path, tree: &Tree) -> Result<bool, AllocError>
@@ -321,7 +319,7 @@ impl Brought {
         ensures err { OnErr result (self.new ≡ self.old) }
     {
         let forms = Forms::copies(self.allocator(), registered)?;
-        recover::change_cover(
+        recovery::change_cover(
             &mut self.regions,
             &mut self.windows,
             &self.registered,
@@ -362,7 +360,7 @@ impl Brought {
             ≡ recover (without_places places.now self.old.registered) kept self.old) }
         ensures err { OnErr result (self.new ≡ self.old) }
     {
-        recover::end_forms(
+        recovery::end_forms(
             &mut self.regions,
             &mut self.windows,
             &self.registered,
@@ -372,4 +370,14 @@ impl Brought {
         self.registered.remove_places(places);
         Ok(())
     }
+}
+
+// ---- what is brought for a query
+
+/// What is brought for a query.
+#[derive(Debug, Drop)]
+pub struct Base {
+    pub tree: Tree,
+    /// Whether the tree is all that the query's path has.
+    pub whole: bool,
 }

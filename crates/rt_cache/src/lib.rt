@@ -9,25 +9,18 @@
 //! ```
 #![tactic(auto)]
 
-mod base;
 mod brought;
 mod by_path;
 mod examples;
-mod handing;
+mod forms;
+mod handover;
 mod laws;
-mod paths;
-mod recover;
-mod region;
+mod recovery;
 mod regions;
-mod registered;
 mod run;
-mod spans;
-mod trees;
-mod window;
 mod windows;
 
-pub use base::Base;
-pub use brought::Brought;
+pub use brought::{Base, Brought};
 pub use examples::{
     false_ranges, false_windows, order_examples, range_examples, region_examples, run_examples,
     window_examples,

@@ -1,25 +1,96 @@
 // Regions in the order of their paths, of which none is at or above another.
-ghost use Rattle.std.specs.Prelude.{◌≡◌, ℕ, suc, ◌+◌, ◌<◌, ◌≤◌, T, true, false, not, length};
-ghost use Rattle.std.specs.Prelude.{slice_index_or, filter};
-ghost use Rattle.std.specs.Prelude.{vec_len, vec_capacity, IfOk, IfSome, IfNone, OnOk, OnErr, Some};
-ghost use Rattle.std.specs.Prelude.{None, is_some};
+ghost use Rattle.std.specs.Prelude.{◌≡◌, IfOk, OnOk, OnErr, ℕ, suc, ◌+◌, ◌<◌, ◌≤◌, T, true, false, not};
+ghost use Rattle.std.specs.Prelude.{length, slice_index_or, filter, vec_len, vec_capacity, IfSome, IfNone};
+ghost use Rattle.std.specs.Prelude.{Some, None, is_some};
 ghost use Rattle.std.specs.List.{list_any, remove_range};
 ghost use Rattle.std.specs.Option.{option_map};
 ghost use Rattle.std.specs.Ordering.{is_lt};
-ghost use Rattle.std.specs.FinMap as map_of;
-ghost use Rattle.rt_tree.specs.PathTree.{levels, path_cmp, path_eq, strip, sub, child};
+ghost use Rattle.rt_tree.specs.PathTree.{put, levels, path_cmp, path_eq, strip, sub, child, children_alone};
 ghost use Rattle.rt_tree.specs.Assignments.{is_at_or_above, have_overlap};
 ghost use Rattle.rt_cache.specs.Brought.{region_part, region_put};
 ghost use Rattle.rt_cache.specs.inside.Held.{pair_of, pairs_of};
 ghost use Rattle.rt_cache.specs.inside.Spans.{has_place};
-ghost use Rattle.rt_cache.specs.declared.region.Region.{Region};
+ghost use Rattle.rt_cache.specs.declared.regions.Region.{Region};
+ghost use Rattle.rt_cache.specs.inside.Shared.{do_share};
+ghost use Rattle.std.specs.FinMap as map_of;
 
-use crate::paths::{meet, rest_of};
-use crate::region::{BoxedRegion, Region};
-use crate::spans::Span;
-use crate::trees::{child_of, part_of};
+use crate::by_path::Span;
 use rt_tree::{Key, MAX_LEVELS, Path, Tree};
 use std::alloc::{AllocError, Global};
+use std::cmp::Ordering;
+use std::marker::Model;
+use std::slice;
+
+// ---- a region
+
+// A tree at a path.
+pub(crate) struct Region {
+    pub(crate) path: Path,
+    pub(crate) tree: Tree,
+}
+
+impl Drop for Region {
+    fn drop(self) {
+        let Region { path: _, tree: _ } = self;
+    }
+}
+
+// A region in memory of its own, so that a list of regions moves a pointer of each.
+pub(crate) struct BoxedRegion {
+    region: Box<Region>,
+}
+
+impl Drop for BoxedRegion {
+    fn drop(self) {
+        let BoxedRegion { region: _ } = self;
+    }
+}
+
+impl Model for BoxedRegion {
+    ghost use Rattle.rt_cache.specs.declared.regions.Region.{Region};
+
+    ghost Value = { Region };
+
+    ghost view = { λ a. a.region.value };
+}
+
+impl BoxedRegion {
+    // The region, in memory of its own.
+    pub(crate) fn new(alloc: Global, region: Region) -> Result<BoxedRegion, AllocError>
+        ensures { IfOk result (λ boxed. boxed ≡ region) }
+    {
+        Ok(BoxedRegion {
+            region: Box::new(alloc, region)?,
+        })
+    }
+
+    // The region.
+    pub(crate) fn region(&self) -> &Region
+        ensures { result.now ≡ self.now }
+    {
+        &self.region
+    }
+
+    // Its path.
+    pub(crate) fn path(&self) -> &Path
+        ensures { result.now ≡ self.now.path }
+    {
+        &self.region.path
+    }
+
+    // The tree put into its own, below these keys.
+    pub(crate) fn set(&mut self, alloc: Global, keys: &[Key], tree: &Tree) -> Result<(), AllocError>
+        ensures ok { OnOk result (self.new ≡ record {
+          path = self.old.path;
+          tree = put self.old.tree keys.now tree.now;
+        }) }
+        ensures err { OnErr result (self.new ≡ self.old) }
+    {
+        put_at(alloc, &mut self.region.tree, keys, tree)
+    }
+}
+
+// ---- regions in the order of their paths, of which none is at or above another
 
 // How many regions stand at the path or in front of it, by halving: the path comes before the one at
 // this place, and not before the one in front. The keys that the path shares with both ends of what
@@ -224,4 +295,78 @@ pub(crate) fn begin(
     remove_under(regions, path);
     insert(regions, region);
     Ok(())
+}
+
+// ---- parts of trees, and trees put into others
+
+// A copy of the part of the tree below these keys; null where there is none.
+pub(crate) fn part_of(alloc: Global, tree: &Tree, keys: &[Key]) -> Result<Tree, AllocError>
+    ensures { IfOk result (λ part. part ≡ sub tree.now keys.now) }
+{
+    match tree.at(keys) {
+        Some(part) => part.copy(alloc),
+        None => Ok(Tree::null()),
+    }
+}
+
+// A copy of the tree's child; null where there is none.
+pub(crate) fn child_of(alloc: Global, tree: &Tree, key: &Key) -> Result<Tree, AllocError>
+    ensures { IfOk result (λ part. part ≡ child tree.now key.now) }
+{
+    part_of(alloc, tree, slice::from_ref(key))
+}
+
+// A copy of the tree's children. A leaf has none.
+pub(crate) fn children_alone(alloc: Global, tree: &Tree) -> Result<Tree, AllocError>
+    ensures { IfOk result (λ children. children ≡ children_alone tree.now) }
+{
+    if tree.as_leaf().is_some() {
+        Ok(Tree::null())
+    } else {
+        tree.copy(alloc)
+    }
+}
+
+// A copy of the other tree put below these keys.
+pub(crate) fn put_at(
+    alloc: Global,
+    tree: &mut Tree,
+    keys: &[Key],
+    other: &Tree,
+) -> Result<(), AllocError>
+    ensures ok { OnOk result (tree.new ≡ put tree.old keys.now other.now) }
+    ensures err { OnErr result (tree.new ≡ tree.old) }
+{
+    let path = Path::from_keys(alloc, keys).map_err(|_| AllocError)?;
+    let other = other.copy(alloc)?;
+    tree.put(alloc, &path, other).map_err(|_| AllocError)
+}
+
+// ---- paths below paths, and beside them
+
+// How many keys the paths share from the root on, which are at least those that are known, and
+// whether the first path comes before the other.
+pub(crate) fn meet(path: &Path, other: &Path, known: usize) -> (usize, bool)
+    requires { do_share known path.now other.now ≡ true }
+    ensures shared { do_share result.0 path.now other.now ≡ true }
+    ensures before { result.1 ≡ is_lt (path_cmp path.now other.now) }
+{
+    let (keys, others) = (path.keys(), other.keys());
+    let mut shared = known;
+    while shared < keys.len() && shared < others.len() {
+        match keys[shared].cmp(&others[shared]) {
+            Ordering::Equal => shared += 1,
+            Ordering::Less => return (shared, true),
+            Ordering::Greater => return (shared, false),
+        }
+    }
+    (shared, keys.len() < others.len())
+}
+
+// The keys that follow `above` in `path`, which is at or under it.
+pub(crate) fn rest_of<'a>(above: &Path, path: &'a Path) -> &'a [Key]
+    requires { is_at_or_above above.now path.now ≡ true }
+    ensures { Some result.now ≡ strip above.now path.now }
+{
+    path.keys().split_at(above.keys().len()).1
 }

@@ -1,12 +1,10 @@
 // Windows of filtered queries, in the order of the queries.
-ghost use Rattle.std.specs.Prelude.{◌≡◌, ℕ, ◌+◌, ◌<◌, ◌≤◌, ◌++◌, length, IfOk, IfSome, IfNone, OnOk};
-ghost use Rattle.std.specs.Prelude.{vec_len, vec_capacity, if◌then◌else◌};
-ghost use Rattle.std.specs.Prelude.{IsOk, OnErr, Some, None, is_some, not, true, false, slice_index_or};
-ghost use Rattle.std.specs.Prelude.{◌&&◌, ◌||◌};
+ghost use Rattle.std.specs.Prelude.{◌≡◌, false, IfOk, OnOk, OnErr, ℕ, ◌+◌, ◌<◌, ◌≤◌, ◌++◌, length, IfSome};
+ghost use Rattle.std.specs.Prelude.{IfNone, vec_len, vec_capacity, if◌then◌else◌, IsOk, Some, None, is_some};
+ghost use Rattle.std.specs.Prelude.{not, true, slice_index_or, ◌&&◌, ◌||◌};
 ghost use Rattle.std.specs.List.{filter, list_any, remove_range, All};
 ghost use Rattle.std.specs.Option.{option_map_or};
-ghost use Rattle.std.specs.FinMap as map_of;
-ghost use Rattle.rt_tree.specs.PathTree.{levels, strip, children_alone, put};
+ghost use Rattle.rt_tree.specs.PathTree.{put, children_alone, levels, strip};
 ghost use Rattle.rt_tree.specs.Assignments.{is_at_or_above};
 ghost use Rattle.rt_query.specs.QueryEq.{query_eq};
 ghost use Rattle.rt_query.specs.QueryOrder.{query_cmp};
@@ -16,21 +14,121 @@ ghost use Rattle.rt_cache.specs.Recover.{in_query_order, is_among};
 ghost use Rattle.rt_cache.specs.inside.ByPath.{AreByPath, AreByQuery, query_of, is_other_supplier};
 ghost use Rattle.rt_cache.specs.inside.Listed.{form_query, queries_of};
 ghost use Rattle.rt_cache.specs.inside.Held.{seen_window, entries_of, pushed_windows, is_taken};
-ghost use Rattle.rt_cache.specs.inside.Sources.{source_among, HaveForms};
-ghost use Rattle.rt_cache.specs.declared.window.Window.{Window};
+ghost use Rattle.rt_cache.specs.inside.Sources.{source_among, AreAlone, HaveForms};
+ghost use Rattle.rt_cache.specs.declared.windows.Window.{Window};
+ghost use Rattle.std.specs.FinMap as map_of;
 
 use crate::by_path::{
-    HasQuery, first_from, first_of, is_only_supplier, is_other_supplier, last_supplier, place_of,
-    span_under,
+    HasQuery, Span, first_from, first_of, is_only_supplier, is_other_supplier, last_supplier,
+    place_of, span_under,
 };
-use crate::paths::rest_of;
-use crate::registered::{BoxedForm, Forms};
-use crate::spans::Span;
-use crate::trees::children_alone;
-use crate::window::BoxedWindow;
+use crate::forms::{BoxedForm, Forms};
+use crate::regions::{children_alone, put_at, rest_of};
 use rt_query::Query;
-use rt_tree::{MAX_LEVELS, Path, Tree};
+use rt_tree::{Key, MAX_LEVELS, Path, Tree};
 use std::alloc::{AllocError, Global};
+use std::marker::Model;
+
+// ---- a window
+
+// The known children of a filtered query; whole where they are all that its path has.
+pub(crate) struct Window {
+    pub(crate) query: Query,
+    pub(crate) children: Tree,
+    pub(crate) is_whole: bool,
+}
+
+impl Drop for Window {
+    fn drop(self) {
+        let Window {
+            query: _,
+            children: _,
+            is_whole: _,
+        } = self;
+    }
+}
+
+// A window in memory of its own, so that a list of windows moves a pointer of each.
+pub(crate) struct BoxedWindow {
+    window: Box<Window>,
+}
+
+impl Drop for BoxedWindow {
+    fn drop(self) {
+        let BoxedWindow { window: _ } = self;
+    }
+}
+
+impl Model for BoxedWindow {
+    ghost use Rattle.rt_cache.specs.declared.windows.Window.{Window};
+
+    ghost Value = { Window };
+
+    ghost view = { λ a. a.window.value };
+}
+
+impl HasQuery for BoxedWindow {
+    ghost query_of = { λ w. w.query };
+
+    fn query(&self) -> &Query {
+        &self.window.query
+    }
+}
+
+impl BoxedWindow {
+    // The window of a query over the children of a tree, in memory of its own.
+    pub(crate) fn over(
+        alloc: Global,
+        query: &Query,
+        tree: &Tree,
+        is_whole: bool,
+    ) -> Result<BoxedWindow, AllocError>
+        ensures { IfOk result (λ boxed. boxed ≡ record {
+          query = query.now;
+          children = children_alone tree.now;
+          is_whole = is_whole;
+        }) }
+    {
+        let window = Window {
+            query: query.copy()?,
+            children: children_alone(alloc, tree)?,
+            is_whole,
+        };
+        Ok(BoxedWindow {
+            window: Box::new(alloc, window)?,
+        })
+    }
+
+    // The window.
+    pub(crate) fn window(&self) -> &Window
+        ensures { result.now ≡ self.now }
+    {
+        &self.window
+    }
+
+    // Other children, which need not be all that the path has.
+    pub(crate) fn refill(&mut self, children: Tree)
+        ensures { self.new
+            ≡ record { query = self.old.query; children = children; is_whole = false } }
+    {
+        self.window.children = children;
+        self.window.is_whole = false;
+    }
+
+    // The tree put into the children, below these keys.
+    pub(crate) fn set(&mut self, alloc: Global, keys: &[Key], tree: &Tree) -> Result<(), AllocError>
+        ensures ok { OnOk result (self.new ≡ record {
+          query = self.old.query;
+          children = put self.old.children keys.now tree.now;
+          is_whole = self.old.is_whole;
+        }) }
+        ensures err { OnErr result (self.new ≡ self.old) }
+    {
+        put_at(alloc, &mut self.window.children, keys, tree)
+    }
+}
+
+// ---- windows of filtered queries, in the order of the queries
 
 // Where the window of the query stands, by halving.
 pub(crate) fn place_of_window(windows: &[BoxedWindow], query: &Query) -> Option<usize>
@@ -220,6 +318,33 @@ fn remove_supplied(windows: &mut Vec<BoxedWindow>, query: &Query)
     }
 }
 
+// The window of the query replaced by the children of the tree, and those of other queries that it supplies
+// taken out. None of them stands beside a window that the query has already.
+fn put_whole(
+    alloc: Global,
+    windows: &mut Vec<BoxedWindow>,
+    query: &Query,
+    tree: &Tree,
+) -> Result<(), AllocError>
+    requires order { AreByQuery query_of windows.old.items }
+    requires filtered { is_filtered query.now ≡ true }
+    requires apart { AreAlone (in_query_order (entries_of windows.old.items)) }
+    ensures order { AreByQuery query_of windows.new.items }
+    ensures ok { OnOk result (in_query_order (entries_of windows.new.items)
+        ≡ filter (λ w. query_eq w.0 query.now || not (does_supply query.now w.0))
+        (map_of.put query_cmp query.now
+        (record { children = children_alone tree.now; is_whole = false }) (in_query_order
+        (entries_of windows.old.items)))) }
+    ensures err { OnErr result (windows.new.items ≡ windows.old.items) }
+{
+    if place_of_window(windows, query).is_some() {
+        return replace(alloc, windows, query, tree);
+    }
+    replace(alloc, windows, query, tree)?;
+    remove_supplied(windows, query);
+    Ok(())
+}
+
 // Where the window of the form stands, if it supplies the query.
 fn place_supplying(windows: &[BoxedWindow], form: &Query, query: &Query) -> Option<usize>
     requires { AreByQuery query_of windows.now }
@@ -307,6 +432,7 @@ pub(crate) fn push(
     requires levels { length path.now + levels tree.now ≤ MAX_LEVELS }
     requires order { AreByQuery query_of windows.old.items }
     requires filtered { is_filtered query.now ≡ true }
+    requires apart { AreAlone (in_query_order (entries_of windows.old.items)) }
     ensures order { AreByQuery query_of windows.new.items }
     ensures ok { OnOk result (in_query_order (entries_of windows.new.items)
         ≡ pushed_windows query.now (path.now, tree.now) (in_query_order
@@ -319,8 +445,7 @@ pub(crate) fn push(
         → IsOk result }
 {
     if path == query.path() {
-        replace(alloc, windows, query, tree)?;
-        remove_supplied(windows, query);
+        put_whole(alloc, windows, query, tree)?;
         return Ok(true);
     }
     let Some(place) = place_of_window(windows, query) else {

@@ -7,9 +7,9 @@ use Rattle.slab.specs.Slab.{get}
 use Rattle.rt_chain.specs.Chains.{half_between, head_or, last_or}
 use Rattle.rt_chain.specs.inside.Links.{Linked, IsLinked, IsRun, is_marked, kept_in, links_in}
 use Rattle.rt_chain.specs.inside.Halves.{HasMark, HaveMark, is_behind, is_front}
-use Rattle.rt_chain.specs.declared.half.Half.{Half}
-use Rattle.rt_chain.specs.declared.half.Half.TheVariants.{Front, Behind}
-use Rattle.rt_chain.specs.declared.node.Node.{Node}
+use Rattle.rt_chain.specs.declared.chain.Half.{Half}
+use Rattle.rt_chain.specs.declared.chain.Half.TheVariants.{Front, Behind}
+use Rattle.rt_chain.specs.declared.linked_map.Node.{Node}
 use Rattle.rt_chain.proofs.Entries.{all-left, all-right, split}
 use Rattle.rt_chain.proofs.Places.{values-append}
 use Rattle.rt_chain.proofs.Runs.{last-append, links_at}

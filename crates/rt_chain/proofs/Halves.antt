@@ -9,8 +9,8 @@ use Rattle.std.specs.Map.{keys_of, values_of, lookup, remove_entry}
 use Rattle.rt_chain.specs.Chains.{Chain, CrossesAhead, CrossesBack, IsApart, IsOther, Puts, all_in, head_or, last_or, slots_of}
 use Rattle.rt_chain.specs.inside.Links.{Linked, IsLinked, kept_in}
 use Rattle.rt_chain.specs.inside.Halves.{HasMark, HaveMark, IsCut, chain_of, is_same, picked, taken}
-use Rattle.rt_chain.specs.declared.half.Half.{Half}
-use Rattle.rt_chain.specs.declared.half.Half.TheVariants.{Front, Behind}
+use Rattle.rt_chain.specs.declared.chain.Half.{Half}
+use Rattle.rt_chain.specs.declared.chain.Half.TheVariants.{Front, Behind}
 use Rattle.rt_chain.proofs.Entries.{Above, Under, all-left, all-right, all-append, above-apart, under-apart, insert_at, insert_between, lookup_at, lookup_other, remove_at, remove_other}
 use Rattle.rt_chain.proofs.Places.{values-append}
 use Rattle.rt_chain.proofs.Runs.{apart_without, head-append, last-append, other-left, other-right}

@@ -11,7 +11,7 @@ use Rattle.std.specs.Map.{keys_of, values_of, lookup, remove_entry}
 use Rattle.slab.specs.Slab.{Slab, get, Updates}
 use Rattle.rt_chain.specs.Chains.{IsApart, IsOther, below, head_or, last_or}
 use Rattle.rt_chain.specs.inside.Links.{Linked, IsLinked, IsRun, joined, is_link, links_in, with_mark, with_value}
-use Rattle.rt_chain.specs.declared.node.Node.{Node}
+use Rattle.rt_chain.specs.declared.linked_map.Node.{Node}
 use Rattle.rt_chain.proofs.Places.{found, parted, values-append}
 use Rattle.rt_chain.proofs.Runs.{JoinsTo, apart_with, apart_without, assoc_one, links_at, none_last, run_kept, run_last, run_same, run_with, run_without, turned, vacant_other}
 

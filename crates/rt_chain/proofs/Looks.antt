@@ -13,9 +13,9 @@ use Rattle.slab.specs.Slab.{get}
 use Rattle.rt_chain.specs.Chains.{all_in, below, head_or, in_half, is_half, last_in, last_or, slots_of}
 use Rattle.rt_chain.specs.inside.Links.{Linked, IsRun, is_marked, kept_in, links_in, value_in}
 use Rattle.rt_chain.specs.inside.Halves.{HaveMark, IsCut, chain_of, half_by, is_same, picked, taken}
-use Rattle.rt_chain.specs.declared.half.Half.{Half}
-use Rattle.rt_chain.specs.declared.half.Half.TheVariants.{Front, Behind}
-use Rattle.rt_chain.specs.declared.node.Node.{Node}
+use Rattle.rt_chain.specs.declared.chain.Half.{Half}
+use Rattle.rt_chain.specs.declared.chain.Half.TheVariants.{Front, Behind}
+use Rattle.rt_chain.specs.declared.linked_map.Node.{Node}
 use Rattle.rt_chain.proofs.Cutting.{first_link, kept_of, marked_as, second_link}
 use Rattle.rt_chain.proofs.Entries.{all-append, all-right}
 use Rattle.rt_chain.proofs.Halves.{Kept, behind_is, front_is, picked-length, picked-one, picked-slots, slots_are}

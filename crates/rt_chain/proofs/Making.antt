@@ -19,9 +19,9 @@ use Rattle.rt_chain.specs.Chains.{IsOther, all_in, below, entries_of, head_or, l
 use Rattle.rt_chain.specs.inside.Links.{Linked, IsLinked, Pushes, joined, kept_in, links_in}
 use Rattle.rt_chain.specs.inside.Halves.{IsCut, chain_of}
 use Rattle.rt_chain.specs.inside.Made.{IsMade, linked_of}
-use Rattle.rt_chain.specs.declared.half.Half.{Half}
-use Rattle.rt_chain.specs.declared.half.Half.TheVariants.{Front, Behind}
-use Rattle.rt_chain.specs.declared.node.Node.{Node}
+use Rattle.rt_chain.specs.declared.chain.Half.{Half}
+use Rattle.rt_chain.specs.declared.chain.Half.TheVariants.{Front, Behind}
+use Rattle.rt_chain.specs.declared.linked_map.Node.{Node}
 use Rattle.rt_chain.proofs.Cutting.{kept_of, nothing_kept}
 use Rattle.rt_chain.proofs.Entries.{Above, Under, above-apart, insert_between, lookup_other}
 use Rattle.rt_chain.proofs.Halves.{KeepsBut, Put, count_front, put_behind, put_front}

@@ -9,7 +9,7 @@ use Rattle.std.specs.Map.{keys_of, values_of, lookup}
 use Rattle.slab.specs.Slab.{get}
 use Rattle.rt_chain.specs.Chains.{below, last_or}
 use Rattle.rt_chain.specs.inside.Links.{Linked, IsLinked}
-use Rattle.rt_chain.specs.declared.node.Node.{Node}
+use Rattle.rt_chain.specs.declared.linked_map.Node.{Node}
 use Rattle.rt_chain.proofs.Cutting.{previous_at}
 use Rattle.rt_chain.proofs.Entries.{Above, Under, spot}
 

@@ -11,8 +11,8 @@ use Rattle.slab.specs.Slab.{get}
 use Rattle.rt_chain.specs.Chains.{IsOther, half_at, half_between, head_or, is_from_first, is_to_last, last_or}
 use Rattle.rt_chain.specs.inside.Links.{Linked, IsLinked, KeepsOthers, is_marked, kept_in, links_in}
 use Rattle.rt_chain.specs.inside.Halves.{HasMark, HaveMark, IsCut, chain_of, half_by, is_behind, is_front, picked}
-use Rattle.rt_chain.specs.declared.half.Half.{Half}
-use Rattle.rt_chain.specs.declared.node.Node.{Node}
+use Rattle.rt_chain.specs.declared.chain.Half.{Half}
+use Rattle.rt_chain.specs.declared.linked_map.Node.{Node}
 use Rattle.rt_chain.proofs.Cutting.{head_behind, head_front, last_behind, last_front, marked_as, next_at, nothing_kept, previous_at}
 use Rattle.rt_chain.proofs.Entries.{Above, Under, all-left, all-right, gap, insert_between, split, spot}
 use Rattle.rt_chain.proofs.Halves.{Kept, behind_is, front_is, have-kept, keys-left, keys-right, others as both_others, picked-one}

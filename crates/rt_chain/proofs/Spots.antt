@@ -12,9 +12,9 @@ use Rattle.slab.specs.Slab.{get}
 use Rattle.rt_chain.specs.Chains.{Chain, IsApart, IsOther, all_in, in_half, last_or, slots_of, with_value}
 use Rattle.rt_chain.specs.inside.Links.{Linked, IsLinked, KeepsOthers, is_marked, kept_in, sets, value_in}
 use Rattle.rt_chain.specs.inside.Halves.{HasMark, HaveMark, IsCut, chain_of, half_by, is_same, picked, taken}
-use Rattle.rt_chain.specs.declared.half.Half.{Half}
-use Rattle.rt_chain.specs.declared.half.Half.TheVariants.{Front, Behind}
-use Rattle.rt_chain.specs.declared.node.Node.{Node}
+use Rattle.rt_chain.specs.declared.chain.Half.{Half}
+use Rattle.rt_chain.specs.declared.chain.Half.TheVariants.{Front, Behind}
+use Rattle.rt_chain.specs.declared.linked_map.Node.{Node}
 use Rattle.rt_chain.proofs.Cutting.{kept_of, marked_as}
 use Rattle.rt_chain.proofs.Entries.{all-append, all-right}
 use Rattle.rt_chain.proofs.Halves.{Kept, KeepsBut, Taken, behind_is, front_is, picked-one, picked-slots, slots_are}

@@ -11,9 +11,9 @@ use Rattle.slab.specs.Slab.{get}
 use Rattle.rt_chain.specs.Chains.{Chain, CrossesAhead, CrossesBack, IsOther, half_between, head_or, last_or}
 use Rattle.rt_chain.specs.inside.Links.{Linked, IsLinked, KeepsOthers, is_marked, kept_in, links_in, marks, sets}
 use Rattle.rt_chain.specs.inside.Halves.{HasMark, HaveMark, IsCut, chain_of, half_by, is_behind, is_front, picked, taken}
-use Rattle.rt_chain.specs.declared.half.Half.{Half}
-use Rattle.rt_chain.specs.declared.half.Half.TheVariants.{Front, Behind}
-use Rattle.rt_chain.specs.declared.node.Node.{Node}
+use Rattle.rt_chain.specs.declared.chain.Half.{Half}
+use Rattle.rt_chain.specs.declared.chain.Half.TheVariants.{Front, Behind}
+use Rattle.rt_chain.specs.declared.linked_map.Node.{Node}
 use Rattle.rt_chain.proofs.Cutting.{begins_with, comes_behind, comes_front, ends_in, first_stays, kept_of, last_stays, marked_as, next_at, nothing_first, nothing_kept, nothing_last, previous_at}
 use Rattle.rt_chain.proofs.Entries.{Above, Under, above-apart, all-left, all-right, gap, insert_between, remove_at, split, spot}
 use Rattle.rt_chain.proofs.Halves.{Kept, KeepsBut, Put, Taken, ahead, apart_at, back, behind_is, front_is, have-kept, others as both_others, put_behind, put_front, set_behind, set_front, take_behind, take_front}

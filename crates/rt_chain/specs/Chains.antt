@@ -5,8 +5,8 @@ use Rattle.std.specs.Ordering.{is_le}
 use Rattle.std.specs.BTreeMap.{insert_entry}
 use Rattle.std.specs.Coded.{Coded, code_by, coded×, coded_ℕ, coded_list}
 use Rattle.std.specs.declared.cmp.Ordering.{Ordering}
-use Rattle.rt_chain.specs.declared.half.Half.{Half}
-use Rattle.rt_chain.specs.declared.half.Half.TheVariants.{Front, Behind}
+use Rattle.rt_chain.specs.declared.chain.Half.{Half}
+use Rattle.rt_chain.specs.declared.chain.Half.TheVariants.{Front, Behind}
 
 -- the first of some slots, or the one behind them
 abbrev pub head_or : List ℕ → Option ℕ → Option ℕ

@@ -1,23 +1,20 @@
 // A chain that is cut at one place.
-ghost use Rattle.std.specs.Prelude.{◌≡◌, ◌++◌, ◌∷◌, [], ℕ, List, Some, None, IfOk, IfSome, IfNone};
-ghost use Rattle.std.specs.Prelude.{OnErr, if◌then◌else◌, ◌||◌, drop, length, is_some, take};
+ghost use Rattle.std.specs.Prelude.{◌≡◌, ◌++◌, ◌∷◌, [], ℕ, List, Some, None, IfOk, IfSome, IfNone, OnErr};
+ghost use Rattle.std.specs.Prelude.{if◌then◌else◌, ◌||◌, drop, length, is_some, take};
 ghost use Rattle.std.specs.List.Sorted.{IsStrictlySortedBy};
 ghost use Rattle.std.specs.Option.{option_and_then, option_copied, option_map};
 ghost use Rattle.std.specs.declared.cmp.Ordering.TheVariants.{Equal};
-ghost use Rattle.slab.specs.Slab.{get};
 ghost use Rattle.std.specs.BTreeMap.{insert_entry, is_at};
 ghost use Rattle.std.specs.Map.{keys_of, lookup, remove_entry};
+ghost use Rattle.slab.specs.Slab.{get};
 ghost use Rattle.rt_chain.specs.Chains.{CrossesAhead, CrossesBack, IsApart, IsOther, Puts, all_in, below};
 ghost use Rattle.rt_chain.specs.Chains.{entries_of, half_at, half_between, head_or, in_half, is_half};
 ghost use Rattle.rt_chain.specs.Chains.{last_in, last_or, slots_of, with_value};
 ghost use Rattle.rt_chain.specs.inside.Links.{is_marked};
 ghost use Rattle.rt_chain.specs.inside.Halves.{half_by, is_behind, is_front};
-ghost use Rattle.rt_chain.specs.declared.half.Half.TheVariants.{Front, Behind};
+ghost use Rattle.rt_chain.specs.declared.chain.Half.TheVariants.{Front, Behind};
 
-use crate::half::Half;
-use crate::linked_map::{LinkedMap, Place};
-use crate::links::push;
-use crate::placed::Placed;
+use crate::linked_map::{KeyPlace, LinkedMap, push};
 use slab::Slab;
 use std::alloc::{AllocError, Global};
 use std::marker::Model;
@@ -229,12 +226,12 @@ impl<K: Ord + Drop, V: Drop> Chain<K, V> {
         ensures absent { OnErr result (lookup (is_at (K.cmp key)) (all_in self.old) ≡ None) }
     {
         let previous = match self.linked.place(&key) {
-            Place::At(slot) => {
+            KeyPlace::At(slot) => {
                 let half = half_of(&self.linked, slot);
                 let old = self.linked.set(slot, value);
                 return Ok(Placed { slot, half, old });
             }
-            Place::After(previous) => previous,
+            KeyPlace::After(previous) => previous,
         };
         let slot = self.linked.insert(key, value, previous)?;
         // For the prover: no more values stand in front of the cut than there are.
@@ -417,5 +414,33 @@ impl<K: Ord + Drop, V: Drop> Chain<K, V> {
             Half::Front => self.linked.get(self.last?),
             Half::Behind => None,
         }
+    }
+}
+
+// ---- one of the two halves of a list
+
+/// The values in front of a cut, or those behind it.
+#[derive(Clone, Copy, Debug, PartialEq, Eq)]
+pub enum Half {
+    Front,
+    Behind,
+}
+
+// ---- what a put answers
+
+/// Where a value was put: its slot, the half in which that stands, and the value that was there.
+pub struct Placed<V> {
+    pub slot: u32,
+    pub half: Half,
+    pub old: Option<V>,
+}
+
+impl<V: Drop> Drop for Placed<V> {
+    fn drop(self) {
+        let Placed {
+            slot: _,
+            half: _,
+            old: _,
+        } = self;
     }
 }

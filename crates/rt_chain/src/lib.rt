@@ -12,12 +12,6 @@
 #![tactic(auto)]
 
 mod chain;
-mod half;
 mod linked_map;
-mod links;
-mod node;
-mod placed;
 
-pub use chain::Chain;
-pub use half::Half;
-pub use placed::Placed;
+pub use chain::{Chain, Half, Placed};

@@ -1,25 +1,25 @@
 // Values in the order of their keys, linked in a slab.
-ghost use Rattle.std.specs.Prelude.{◌≡◌, [], false, ℕ, Some, None, IfOk, IfSome, OnErr, length};
+ghost use Rattle.std.specs.Prelude.{◌≡◌, [], false, ℕ, Some, None, IfOk, IfSome, OnErr, length, ◌≢◌};
 ghost use Rattle.std.specs.Option.{option_and_then, option_copied, option_map};
 ghost use Rattle.std.specs.BTreeMap.{insert_entry, is_at};
 ghost use Rattle.std.specs.Map.{lookup, remove_entry, values_of};
 ghost use Rattle.std.specs.declared.cmp.Ordering.TheVariants.{Equal};
 ghost use Rattle.slab.specs.Slab.{get};
 ghost use Rattle.rt_chain.specs.Chains.{below, head_or, last_or};
-ghost use Rattle.rt_chain.specs.declared.linked_map.Place.TheVariants.{After};
+ghost use Rattle.rt_chain.specs.declared.linked_map.KeyPlace.TheVariants.{After};
 ghost use Rattle.rt_chain.specs.inside.Places.{IsPlace};
-ghost use Rattle.rt_chain.specs.inside.Links.{IsLinked, KeepsOthers, is_marked, kept_in, marks};
-ghost use Rattle.rt_chain.specs.inside.Links.{sets, value_in};
+ghost use Rattle.rt_chain.specs.inside.Links.{IsLinked, KeepsOthers, is_marked, kept_in, marks, sets};
+ghost use Rattle.rt_chain.specs.inside.Links.{value_in, Pushes, joined, with_mark, with_next, with_previous};
+ghost use Rattle.rt_chain.specs.inside.Links.{with_value};
 
-use crate::links::{LAST_SLOT, join, set_mark, set_value};
-use crate::node::Node;
 use slab::Slab;
 use std::alloc::{AllocError, Global};
 use std::collections::BTreeMap;
 use std::marker::Model;
+use std::mem;
 
 // Where a key stands, or after which slot it would.
-pub(crate) enum Place {
+pub(crate) enum KeyPlace {
     At(u32),
     After(Option<u32>),
 }
@@ -62,12 +62,12 @@ fn slot_below<K: Ord + Drop>(places: &BTreeMap<K, u32>, key: &K) -> Option<u32>
 }
 
 // Where a key stands, or after which slot it would.
-fn place_of<K: Ord + Drop>(places: &BTreeMap<K, u32>, key: &K) -> Place
+fn place_of<K: Ord + Drop>(places: &BTreeMap<K, u32>, key: &K) -> KeyPlace
     ensures { IsPlace (K.cmp key.now) places.now.entries result }
 {
     match places.get(key) {
-        Some(slot) => Place::At(*slot),
-        None => Place::After(slot_below(places, key)),
+        Some(slot) => KeyPlace::At(*slot),
+        None => KeyPlace::After(slot_below(places, key)),
     }
 }
 
@@ -179,7 +179,7 @@ impl<K: Ord + Drop, V: Drop> LinkedMap<K, V> {
     }
 
     // Where a key stands, or after which slot it would.
-    pub fn place(&self, key: &K) -> Place
+    pub fn place(&self, key: &K) -> KeyPlace
         ensures { IsPlace (K.cmp key.now) self.now.places result }
     {
         place_of(&self.places, key)
@@ -279,5 +279,127 @@ impl<K: Ord + Drop, V: Drop> LinkedMap<K, V> {
         let node = self.nodes.try_remove(slot as usize)?;
         join(&mut self.nodes, node.previous, node.next);
         Some(node)
+    }
+}
+
+// ---- a value, its mark and its links
+
+// A value as it stands in a slab, whether it is marked, and the slots of those beside it.
+pub struct Node<V> {
+    pub value: V,
+    pub marked: bool,
+    pub previous: Option<u32>,
+    pub next: Option<u32>,
+}
+
+impl<V: Drop> Drop for Node<V> {
+    fn drop(self) {
+        let Node {
+            value: _,
+            marked: _,
+            previous: _,
+            next: _,
+        } = self;
+    }
+}
+
+impl<V> Node<V> {
+    // The value, the mark, and the links.
+    pub(crate) fn parts(self) -> (V, bool, Option<u32>, Option<u32>)
+        ensures value { result.0 ≡ self.value }
+        ensures marked { result.1 ≡ self.marked }
+        ensures previous { result.2 ≡ self.previous }
+        ensures next { result.3 ≡ self.next }
+    {
+        let Node {
+            value,
+            marked,
+            previous,
+            next,
+        } = self;
+        (value, marked, previous, next)
+    }
+}
+
+// ---- nodes are linked to each other
+
+// A slot takes four bytes: one beyond that is refused as memory.
+pub(crate) const LAST_SLOT: usize = u32::MAX as usize;
+
+// Sets the value of a node. The old one is handed out.
+pub(crate) fn set_value<V: Drop>(nodes: &mut Slab<Node<V>>, slot: u32, value: V) -> Option<V>
+    ensures old { result ≡ option_map (λ x. x.value) (get nodes.old slot) }
+    ensures written { get nodes.new slot ≡ option_map (with_value value) (get nodes.old slot) }
+    ensures others { (n : ℕ) → n ≢ slot → get nodes.new n ≡ get nodes.old n }
+{
+    match nodes.get_mut(slot as usize) {
+        Some(node) => Some(mem::replace(&mut node.value, value)),
+        None => None,
+    }
+}
+
+// Marks a node, or takes its mark.
+pub(crate) fn set_mark<V: Drop>(nodes: &mut Slab<Node<V>>, slot: u32, marked: bool)
+    ensures written { get nodes.new slot ≡ option_map (with_mark marked) (get nodes.old slot) }
+    ensures others { (n : ℕ) → n ≢ slot → get nodes.new n ≡ get nodes.old n }
+{
+    if let Some(node) = nodes.get_mut(slot as usize) {
+        node.marked = marked;
+    }
+}
+
+// Sets the slot behind a node.
+pub(crate) fn set_next<V: Drop>(nodes: &mut Slab<Node<V>>, slot: u32, link: Option<u32>)
+    ensures written { get nodes.new slot ≡ option_map (with_next link) (get nodes.old slot) }
+    ensures others { (n : ℕ) → n ≢ slot → get nodes.new n ≡ get nodes.old n }
+{
+    if let Some(node) = nodes.get_mut(slot as usize) {
+        node.next = link;
+    }
+}
+
+// Sets the slot in front of a node.
+pub(crate) fn set_previous<V: Drop>(nodes: &mut Slab<Node<V>>, slot: u32, link: Option<u32>)
+    ensures written { get nodes.new slot ≡ option_map (with_previous link) (get nodes.old slot) }
+    ensures others { (n : ℕ) → n ≢ slot → get nodes.new n ≡ get nodes.old n }
+{
+    if let Some(node) = nodes.get_mut(slot as usize) {
+        node.previous = link;
+    }
+}
+
+// Puts a node behind another one, with nothing behind it. The answer is its slot.
+pub(crate) fn push<V: Drop>(
+    nodes: &mut Slab<Node<V>>,
+    previous: Option<u32>,
+    value: V,
+    marked: bool,
+) -> Result<u32, AllocError>
+    ensures { IfOk result (λ slot. Pushes previous slot marked value nodes.old nodes.new) }
+{
+    if nodes.vacant_key() > LAST_SLOT {
+        return Err(AllocError);
+    }
+    let place = nodes.insert(Node {
+        value,
+        marked,
+        previous: None,
+        next: None,
+    })?;
+    let slot = place as u32;
+    join(nodes, previous, Some(slot));
+    join(nodes, Some(slot), None);
+    Ok(slot)
+}
+
+// Links two nodes to each other, where they are there.
+pub(crate) fn join<V: Drop>(nodes: &mut Slab<Node<V>>, previous: Option<u32>, next: Option<u32>)
+    ensures { (n : ℕ) → get nodes.new n ≡ option_map (joined previous next n) (get nodes.old n) }
+{
+    if let Some(slot) = previous {
+        set_next(nodes, slot, next);
+    }
+    if let Some(slot) = next {
+        set_previous(nodes, slot, previous);
     }
 }

@@ -14,9 +14,9 @@ use Rattle.rt_mail.specs.declared.item.Item.{Item}
 use Rattle.rt_mail.specs.declared.item.Item.TheVariants as item
 use Rattle.rt_mail.specs.declared.receipt.Receipt.{Receipt}
 use Rattle.rt_mail.specs.Lanes.{Line, Ring, with_items, signed_lane}
-use Rattle.rt_world.specs.declared.call.Call.{Call}
-use Rattle.rt_world.specs.declared.call.Call.TheVariants as call
-use Rattle.rt_client.specs.declared.done.Done.{Done}
+use Rattle.rt_world.specs.declared.step.Call.{Call}
+use Rattle.rt_world.specs.declared.step.Call.TheVariants as call
+use Rattle.rt_client.specs.declared.shared.Done.{Done}
 use Rattle.rt_client.specs.declared.error.ClientError.{ClientError}
 use Rattle.rt_client.specs.declared.error.ClientError.TheVariants as error
 use Rattle.rt_client.specs.declared.error.ClientError.TheVariants.{NoMemory}

@@ -3,17 +3,17 @@ use denote.Param.Send.{IsSend, IsSync}
 use Rattle.circular_buffer.proofs.Crosses.{Cells-send, Cells-sync, Deed-send, Deed-sync}
 use Rattle.rt_mail.proofs.Crosses.{history_send}
 use Rattle.rt_mail.specs.contracts.mirror.Mirror as mirror
-use Rattle.rt_mail.specs.contracts.inbox.Inbox as inbox
+use Rattle.rt_mail.specs.contracts.lane.Inbox as inbox
 use Rattle.rt_mail.specs.contracts.lane.Lane as lane
-use Rattle.rt_mail.specs.contracts.snapshot.Snapshot as snapshot
+use Rattle.rt_mail.specs.contracts.snapshots.Snapshot as snapshot
 use Rattle.rt_mail.specs.contracts.snapshots.Snapshots as snapshots
-use Rattle.rt_cache.specs.contracts.region.Region as region
-use Rattle.rt_cache.specs.contracts.region.BoxedRegion as boxed_region
-use Rattle.rt_cache.specs.contracts.window.Window as window
-use Rattle.rt_cache.specs.contracts.window.BoxedWindow as boxed_window
-use Rattle.rt_cache.specs.contracts.registered.Form as form
-use Rattle.rt_cache.specs.contracts.registered.BoxedForm as boxed_form
-use Rattle.rt_cache.specs.contracts.registered.Forms as registered
+use Rattle.rt_cache.specs.contracts.regions.Region as region
+use Rattle.rt_cache.specs.contracts.regions.BoxedRegion as boxed_region
+use Rattle.rt_cache.specs.contracts.windows.Window as window
+use Rattle.rt_cache.specs.contracts.windows.BoxedWindow as boxed_window
+use Rattle.rt_cache.specs.contracts.forms.Form as form
+use Rattle.rt_cache.specs.contracts.forms.BoxedForm as boxed_form
+use Rattle.rt_cache.specs.contracts.forms.Forms as registered
 use Rattle.rt_cache.specs.contracts.brought.Brought as brought
 use Rattle.rt_forms.specs.contracts.numbers.Numbers as numbers
 use Rattle.rt_forms.specs.contracts.standing.Filtered as filtered
@@ -21,14 +21,14 @@ use Rattle.rt_forms.specs.contracts.standing.Standing as standing
 use Rattle.rt_forms.specs.contracts.forms.Forms as forms
 use Rattle.rt_cover.specs.contracts.cover.Cover as cover
 use Rattle.rt_view.specs.contracts.position.Position as position
-use Rattle.rt_view.specs.contracts.known.Child as child
-use Rattle.rt_view.specs.contracts.known.Known as known
-use Rattle.rt_view.specs.contracts.ranged.Ranged as ranged
+use Rattle.rt_view.specs.contracts.children.Child as child
+use Rattle.rt_view.specs.contracts.children.Known as known
+use Rattle.rt_view.specs.contracts.children.Ranged as ranged
 use Rattle.rt_view.specs.contracts.window.Window as shown
 use Rattle.rt_view.specs.contracts.view.View as view
-use Rattle.rt_parts.specs.contracts.held.Held as listening
+use Rattle.rt_parts.specs.contracts.listeners.Held as listening
 use Rattle.rt_parts.specs.contracts.listeners.Listeners as listeners
-use Rattle.rt_world.specs.contracts.request.Request as request
+use Rattle.rt_world.specs.contracts.step.Request as request
 use Rattle.rt_parts.specs.contracts.requests.Requests as requests
 use Rattle.rt_writes.specs.contracts.spots.Spot as spot
 use Rattle.rt_writes.specs.contracts.pending.Pending as writes

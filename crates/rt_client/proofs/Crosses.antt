@@ -14,14 +14,14 @@ use Rattle.rt_tree.specs.contracts.key.Key as key
 use Rattle.rt_tree.specs.contracts.leaf.Leaf as leaf
 use Rattle.rt_tree.specs.contracts.path.Path as path
 use Rattle.rt_tree.specs.contracts.tree.Tree as tree
-use Rattle.rt_query.specs.contracts.limit.Limit as limit
+use Rattle.rt_query.specs.contracts.query.Limit as limit
 use Rattle.rt_query.specs.contracts.query.Query as query
 use Rattle.rt_writes.specs.contracts.entries.Entries as entries
-use Rattle.rt_wire.specs.contracts.reason.Reason as reason
+use Rattle.rt_wire.specs.contracts.request.Reason as reason
 use Rattle.rt_wire.specs.contracts.request.Action as action
 use Rattle.rt_wire.specs.contracts.request.Ending as ending
 use Rattle.rt_wire.specs.contracts.server.ServerMessage as server
-use Rattle.rt_world.specs.contracts.call.Call as call
+use Rattle.rt_world.specs.contracts.step.Call as call
 use Rattle.rt_mail.specs.contracts.item.Item as item
 use Rattle.rt_client.proofs.MapCrosses.{map_send, map_sync}
 

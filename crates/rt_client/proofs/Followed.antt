@@ -9,8 +9,8 @@ use Rattle.rt_mail.specs.declared.item.Item.TheVariants as item
 use Rattle.rt_mail.specs.declared.receipt.Receipt.{Receipt}
 use Rattle.rt_mail.specs.Mailbox.{Known, taken, known_of}
 use Rattle.rt_mail.specs.Lanes.{Line, signed_lane}
-use Rattle.rt_world.specs.declared.call.Call.{Call}
-use Rattle.rt_world.specs.declared.call.Call.TheVariants as call
+use Rattle.rt_world.specs.declared.step.Call.{Call}
+use Rattle.rt_world.specs.declared.step.Call.TheVariants as call
 use Rattle.rt_client.specs.Seats.{reflection, receipt_of, told_to, does_close}
 use Rattle.rt_client.specs.Lanes.{lane_of, due, settled, with_told}
 use Rattle.rt_client.specs.Shared.{Held, lane_after, signed_by, foreseen}

@@ -28,7 +28,7 @@ use Rattle.rt_mail.specs.declared.receipt.Receipt.{Receipt}
 use Rattle.rt_mail.specs.Lanes.{Line, signed_lane}
 use Rattle.rt_mail.specs.laws.Shows.{SelectsAgain}
 use Rattle.rt_mail.specs.Snapshots.{Known, shown_of, seen_of, after_item, after_items}
-use Rattle.rt_client.specs.declared.done.Done.{Done}
+use Rattle.rt_client.specs.declared.shared.Done.{Done}
 use Rattle.rt_client.specs.Seats.{receipt_of, receipts_to, told_by, told_to, does_close, shown_by, reflection}
 use Rattle.rt_client.specs.Lanes.{new_lane, lane_of, due, settled, with_told}
 use Rattle.rt_client.specs.Shared.{Held, IsWhole, lane_after, signed_by}

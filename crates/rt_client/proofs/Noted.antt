@@ -7,7 +7,7 @@ use Rattle.std.proofs.lemmas.List.{map-append}
 use Rattle.std.proofs.lemmas.Bool.Decides.{nat_tests}
 use Rattle.rt_world.specs.declared.report.Body.TheVariants as body
 use Rattle.rt_world.specs.declared.report.Note.{Note}
-use Rattle.rt_world.specs.declared.request.Request.{Request}
+use Rattle.rt_world.specs.declared.step.Request.{Request}
 use Rattle.rt_world.specs.World.{Reason, Listener}
 use Rattle.rt_world.specs.steps.Closing.{unseated}
 use Rattle.rt_world.specs.Answers.{settled_note}

@@ -14,7 +14,7 @@ use Rattle.rt_view.specs.laws.Changes.{ChangesTurn}
 use Rattle.rt_wire.specs.declared.request.Asked.{Asked}
 use Rattle.rt_wire.specs.declared.request.Asked.TheVariants as asked
 use Rattle.rt_world.specs.declared.report.Note.{Note}
-use Rattle.rt_world.specs.declared.request.Request.{Request}
+use Rattle.rt_world.specs.declared.step.Request.{Request}
 use Rattle.rt_world.specs.declared.step.Step.{Step}
 use Rattle.rt_world.specs.World.{Reason, Listener, World, pending}
 use Rattle.rt_world.specs.Views.{is_known, view_of, seen_over}

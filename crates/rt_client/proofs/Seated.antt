@@ -7,8 +7,8 @@ use Rattle.rt_world.specs.declared.error.CoreError.{CoreError}
 use Rattle.rt_world.specs.Calls.{step_of_message}
 use Rattle.rt_push.specs.PushIds.{Stamp}
 use Rattle.rt_mail.specs.Lanes.{Line, Ring, new_ring}
-use Rattle.rt_world.specs.declared.call.Call.{Call}
-use Rattle.rt_client.specs.declared.done.Done.{Done}
+use Rattle.rt_world.specs.declared.step.Call.{Call}
+use Rattle.rt_client.specs.declared.shared.Done.{Done}
 use Rattle.rt_client.specs.declared.error.ClientError.TheVariants.{Core, NoMemory}
 use Rattle.rt_client.specs.Seats.{caller_of, closed_by}
 use Rattle.rt_client.specs.Lanes.{new_lane, lane_of, IsChanged, HasRoom}

@@ -2,7 +2,7 @@
 use Rattle.std.proofs.Common.{◌≡◌, ℕ, Bool, true, false, cond, ◌==◌, List, [], drop, inl, inr, refl, sym, ap, subst, ◌∙◌, Option, Some, None, Ok, IsTrue, is_some}
 use mathlib.Core.Bool.{true≢false}
 use Rattle.std.specs.Option.{option_map, option_map_or}
-use Rattle.rt_cover.specs.declared.kept.Kept.{Kept}
+use Rattle.rt_cover.specs.declared.listen.Kept.{Kept}
 use Rattle.rt_push.specs.PushIds.{Stamp}
 use Rattle.rt_wire.specs.declared.client.ClientMessage.{ClientMessage}
 use Rattle.rt_world.specs.World.{World, cover}
@@ -13,7 +13,7 @@ use Rattle.rt_sync.specs.Core.{without_first as without_sent}
 use Rattle.rt_mail.specs.Mailbox.{Known, known_of}
 use Rattle.rt_mail.specs.Lanes.{Line, Ring, without_first}
 use Rattle.rt_world.specs.declared.step.Step.{Step}
-use Rattle.rt_client.specs.declared.done.Done.{Done}
+use Rattle.rt_client.specs.declared.shared.Done.{Done}
 use Rattle.rt_client.specs.declared.error.ClientError.{ClientError}
 use Rattle.rt_client.specs.declared.error.ClientError.TheVariants as error
 use Rattle.rt_client.specs.Lanes.{lane_of, IsChanged, due, settled, settled_ring}

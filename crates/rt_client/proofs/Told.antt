@@ -15,7 +15,7 @@ use Rattle.rt_cache.specs.Brought.{Brought, base}
 use Rattle.rt_view.specs.declared.change.Change.{Change}
 use Rattle.rt_view.specs.Changes.{changes, last_change, Turns}
 use Rattle.rt_view.specs.laws.Changes.{ChangesTurn}
-use Rattle.rt_world.specs.declared.request.Request.{Request}
+use Rattle.rt_world.specs.declared.step.Request.{Request}
 use Rattle.rt_world.specs.World.{Reason, Listener}
 use Rattle.rt_world.specs.Views.{is_known, view_of, seen_over}
 use Rattle.rt_world.specs.After.{renewed}

@@ -3,7 +3,7 @@ use Rattle.std.specs.Prelude.{◌≡◌, ◌≤◌, ℕ, length, [], ◌∷◌, 
 use Rattle.std.specs.Prelude.{Bool, false, Option, Some, None, Ok, Err}
 use Rattle.std.specs.Option.{IfSome}
 use Rattle.rt_push.specs.PushIds.{Stamp}
-use Rattle.rt_world.specs.declared.call.Call.{Call}
+use Rattle.rt_world.specs.declared.step.Call.{Call}
 use Rattle.rt_world.specs.declared.error.CoreError.{CoreError}
 use Rattle.rt_world.specs.declared.report.Outcome.{Outcome}
 use Rattle.rt_world.specs.declared.report.Report.{Report}
@@ -15,7 +15,7 @@ use Rattle.rt_world.specs.Answers.{step}
 use Rattle.rt_mail.specs.declared.item.Item.TheVariants as item
 use Rattle.rt_mail.specs.declared.receipt.Receipt.{Receipt}
 use Rattle.rt_mail.specs.Lanes.{Line, Ring, room, with_items}
-use Rattle.rt_client.specs.declared.done.Done.{Done}
+use Rattle.rt_client.specs.declared.shared.Done.{Done}
 use Rattle.rt_client.specs.declared.error.ClientError.{ClientError}
 use Rattle.rt_client.specs.declared.error.ClientError.TheVariants.{Failed, WrongSeat, MailboxFull}
 use Rattle.rt_client.specs.declared.error.ClientError.TheVariants.{TooManySeats, Core, NoMemory}

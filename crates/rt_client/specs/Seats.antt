@@ -7,7 +7,7 @@ use Rattle.rt_view.specs.Changes.{by_keys, rows_in}
 use Rattle.rt_world.specs.declared.report.Body.{Body}
 use Rattle.rt_world.specs.declared.report.Body.TheVariants as body
 use Rattle.rt_world.specs.declared.report.Note.{Note}
-use Rattle.rt_world.specs.declared.request.Request.{Request}
+use Rattle.rt_world.specs.declared.step.Request.{Request}
 use Rattle.rt_world.specs.declared.step.Step.{Step}
 use Rattle.rt_world.specs.World.{Listener, World}
 use Rattle.rt_world.specs.Answers.{Answer, step}

@@ -1,12 +1,12 @@
 -- What is handed over, closed and taken out of a client's locked value, and what it shows.
 use Rattle.std.specs.Prelude.{◌≡◌, ℕ, take, List, Option, Some}
-use Rattle.rt_cover.specs.declared.kept.Kept.{Kept}
+use Rattle.rt_cover.specs.declared.listen.Kept.{Kept}
 use Rattle.rt_wire.specs.declared.client.ClientMessage.{ClientMessage}
 use Rattle.rt_world.specs.declared.step.Step.{Step}
 use Rattle.rt_world.specs.World.{World, cover}
 use Rattle.rt_sync.specs.Core.{first_message, without_first}
 use Rattle.rt_mail.specs.Lanes.{Line, Ring, with_items}
-use Rattle.rt_client.specs.declared.done.Done.{Done}
+use Rattle.rt_client.specs.declared.shared.Done.{Done}
 use Rattle.rt_client.specs.declared.error.ClientError.{ClientError}
 use Rattle.rt_client.specs.declared.error.ClientError.TheVariants.{Failed, WrongSeat, MailboxFull}
 use Rattle.rt_client.specs.declared.error.ClientError.TheVariants.{TooManySeats, Core, NoMemory}

@@ -10,9 +10,9 @@ ghost use Rattle.rt_client.specs.Calls.{Made, Refuses, Called, RefusesCalled};
 ghost use Rattle.rt_client.specs.Settling.{HandsDue, TakesFirst, HasCover};
 ghost use Rattle.rt_client.specs.Viewing.{HasShown, RefusesShown};
 
-use crate::done::Done;
 use crate::error::ClientError;
 use crate::lanes::Lanes;
+use crate::shared::Done;
 use rt_cover::Kept;
 use rt_mail::{Inbox, Receipt};
 use rt_query::Shown;

@@ -44,43 +44,24 @@
 //! of the seat's listeners the query and the view that the core has, by the law `showing_law`.
 #![tactic(auto)]
 
-mod calls;
 mod client;
-mod crossing;
 mod delivery;
-mod done;
 mod error;
 pub mod examples;
-mod following;
-mod giving;
-mod handing;
 mod held;
-mod keeping;
 mod lanes;
 mod laws;
-mod locking;
-mod numbering;
-mod opening;
-mod reflecting;
 mod seat;
 mod shared;
-mod showing;
-mod waiting;
 
-pub use client::Client;
-pub use crossing::crossing_law;
+pub use client::{Client, ClientNumbers};
 pub use delivery::{Gate, Sink, deliver, turn};
-pub use done::Done;
 pub use error::ClientError;
-pub use following::following_law;
-pub use handing::Unclosed;
-pub use keeping::keeping_law;
-pub use laws::{ids_are_keys, keys_rise, push_key_examples};
-pub use numbering::ClientNumbers;
-pub use opening::MAX_SEATS;
-pub use reflecting::{mirror_law, reflection_law};
+pub use laws::{
+    crossing_law, following_law, ids_are_keys, keeping_law, keys_rise, mirror_law,
+    push_key_examples, reflection_law, showing_law,
+};
 pub use rt_wire::Action;
 pub use rt_world::Call;
 pub use seat::Seat;
-pub use shared::{Shared, Uncalled, try_call, with_core, with_seat};
-pub use showing::showing_law;
+pub use shared::{Done, MAX_SEATS, Shared, Uncalled, Unclosed, try_call, with_core, with_seat};

@@ -4,10 +4,14 @@ ghost use Rattle.std.specs.List.{fold, slice_get};
 ghost use Rattle.rt_mail.specs.declared.error.MailError.TheVariants.{NoMemory};
 ghost use Rattle.rt_client.specs.Waiting.{has_none};
 ghost use Rattle.rt_client.specs.Delivery.{emptied, TakesAll, TakesSome, IsMirrored, RefusesMirror};
+ghost use Rattle.rt_client.specs.Giving.{Gives, RefusesGiving};
 
+use crate::client::Client;
 use crate::delivery::Sink;
+use crate::error::ClientError;
 use rt_mail::{Inbox, Item, MailError, Mirror};
 use std::marker::Model;
+use std::sync::Wait;
 
 /// A thread's own end of a client: its ring. It is shared with nobody.
 pub struct Seat {
@@ -104,5 +108,46 @@ impl Seat {
             return Err(MailError::NoMemory);
         };
         Ok(count)
+    }
+}
+
+// ---- what a seat is told, given to a thread's work
+
+impl Seat {
+    /// Gives each item to a work, in order, as it comes, until those who wait are told to stop or the work
+    /// refuses one. Answers what the work answers to the last one: that it is done, or its own fault. The items
+    /// behind one that it refuses stay with the seat.
+    ///
+    /// ```text
+    /// seat.for_each(rt, &client, |item| show(rt, item))?
+    /// ```
+    ///
+    /// # Errors
+    ///
+    /// As of [`Client::wait`].
+    pub fn for_each<R: Wait, E, F: FnMut(&Item) -> Result<(), E>>(
+        &mut self,
+        rt: &R,
+        client: &Client,
+        f: F,
+    ) -> Result<Result<(), E>, ClientError>
+        requires callable { F.IsAlwaysCallable f }
+        ensures given { IfOk result (λ done. Gives F.FnMut f self.old done self.new) }
+        ensures refused { IfErr result (λ e. RefusesGiving F.FnMut f self.old e self.new) }
+    {
+        let mut f = f;
+        for _ in rt.forever() {
+            client.wait(rt, self)?;
+            let Some(item) = self.next() else {
+                return Ok(Ok(()));
+            };
+            let taken = f(&item);
+            drop(item);
+            match taken {
+                Ok(()) => {}
+                Err(why) => return Ok(Err(why)),
+            }
+        }
+        unreachable!()
     }
 }

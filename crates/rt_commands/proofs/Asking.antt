@@ -19,7 +19,7 @@ use Rattle.clap.specs.Values.{kind_of}
 use Rattle.clap.specs.Words.{FailsBy, HasKind, IsAmong, Kinds, Row, first_of, found_of, one_of, rows_of}
 use Rattle.clap.specs.Words.{subcommand_rows, subcommand_rows_of}
 use Rattle.rt_emulate.specs.Emulating.{Emulation}
-use Rattle.rt_emulate.specs.declared.level.Level.{Level}
+use Rattle.rt_emulate.specs.declared.settings.Level.{Level}
 use Rattle.rt_tree.specs.Path.{path_fault, path_keys}
 use Rattle.rt_tree.specs.PathTree.{Path, PathTree}
 use Rattle.rt_tree.specs.declared.error.TreeError.{TreeError}

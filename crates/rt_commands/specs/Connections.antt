@@ -7,10 +7,10 @@ use Rattle.rt_peer.specs.Runs.{after_all}
 use Rattle.rt_serve.specs.Sessions.{session}
 use Rattle.rt_serve.specs.declared.serve.TheConstants.{MAX_MESSAGES}
 use Rattle.rt_input.specs.Faults.{Counts, Tells}
-use Rattle.rt_commands.specs.declared.connecting.ConnectFault.{ConnectFault}
-use Rattle.rt_commands.specs.declared.connecting.ConnectFault.TheVariants.{Ended, NotConnected}
-use Rattle.rt_commands.specs.declared.serving.ServeFault.{ServeFault}
-use Rattle.rt_commands.specs.declared.serving.ServeFault.TheVariants.{NotBound, NotAccepted, NoMemory}
+use Rattle.rt_commands.specs.declared.connection.ConnectFault.{ConnectFault}
+use Rattle.rt_commands.specs.declared.connection.ConnectFault.TheVariants.{Ended, NotConnected}
+use Rattle.rt_commands.specs.declared.server.ServeFault.{ServeFault}
+use Rattle.rt_commands.specs.declared.server.ServeFault.TheVariants.{NotBound, NotAccepted, NoMemory}
 
 -- ---- the peer
 

@@ -1,9 +1,9 @@
 -- The number and the name of each fault.
 use Rattle.std.specs.Prelude.{ℕ, List, codes}
-use Rattle.rt_commands.specs.declared.connecting.ConnectFault.{ConnectFault}
-use Rattle.rt_commands.specs.declared.connecting.ConnectFault.TheVariants.{NotConnected, Ended}
-use Rattle.rt_commands.specs.declared.serving.ServeFault.{ServeFault}
-use Rattle.rt_commands.specs.declared.serving.ServeFault.TheVariants.{NotBound, NotAccepted, NoMemory}
+use Rattle.rt_commands.specs.declared.connection.ConnectFault.{ConnectFault}
+use Rattle.rt_commands.specs.declared.connection.ConnectFault.TheVariants.{NotConnected, Ended}
+use Rattle.rt_commands.specs.declared.server.ServeFault.{ServeFault}
+use Rattle.rt_commands.specs.declared.server.ServeFault.TheVariants.{NotBound, NotAccepted, NoMemory}
 
 -- why serving ends early
 abbrev pub serve_code : ServeFault → ℕ

@@ -19,8 +19,8 @@ use Rattle.clap.specs.Words.{IsAmong, Kinds, Row, all_of, fault_of, first_of, on
 use Rattle.rt_emulate.specs.Emulating.{Emulation}
 use Rattle.rt_emulate.specs.Levels.{level_of}
 use Rattle.rt_emulate.specs.Origins.{origin_fault}
-use Rattle.rt_emulate.specs.declared.level.Level.{Level}
-use Rattle.rt_emulate.specs.declared.level.Level.TheVariants.{All, Nothing}
+use Rattle.rt_emulate.specs.declared.settings.Level.{Level}
+use Rattle.rt_emulate.specs.declared.settings.Level.TheVariants.{All, Nothing}
 use Rattle.rt_tree.specs.Path.{path_fault, path_keys}
 use Rattle.rt_tree.specs.PathTree.{Path, PathTree}
 use Rattle.rt_tree.specs.Reading.{text_fault, tree_of_data}

@@ -16,16 +16,16 @@
 #![tactic(auto)]
 
 mod commands;
-mod connecting;
-mod serving;
+mod connection;
+mod server;
 mod words;
 
 pub use commands::PROGRAM;
-pub use connecting::{ConnectFault, connect};
+pub use connection::{ConnectFault, connect};
 pub use rt_connect::{drive, drive_logged};
 pub use rt_input::{ConsoleError, Drain, Source};
 pub use rt_peer::Peer;
 pub use rt_script::{run_logged, run_script};
 pub use rt_serve::serve_stream;
-pub use serving::{ServeFault, Streams, Visitors, serve};
+pub use server::{ServeFault, Streams, Visitors, serve};
 pub use words::{Asked, Serving, Work, explain, read_words};

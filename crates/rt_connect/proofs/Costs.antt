@@ -1,6 +1,6 @@
 -- How many bytes what is kept takes.
 use Rattle.std.proofs.Common.{◌≡◌, ℕ, ◌+◌, ◌-◌, ◌^◌, ◌≤◌, min, List, [], ◌∷◌, ◌++◌, ap, ◌∙◌, arith}
-use Rattle.rt_connect.specs.declared.heard.Told.{Told}
+use Rattle.rt_connect.specs.declared.link.Told.{Told}
 use Rattle.rt_connect.specs.Ahead.{byte_count, cost_of}
 
 cost_push : (ts : List Told) (t : Told) → cost_of (ts ++ t ∷ []) ≡ cost_of ts + byte_count t + 64

@@ -7,10 +7,10 @@ use Rattle.rt_socket.specs.declared.lost.Lost.{Lost as SocketLost}
 use Rattle.rt_world.specs.declared.step.Step.TheVariants.{Connected, Disconnected}
 use Rattle.rt_client.specs.Calls.{Locked}
 use Rattle.rt_lines.specs.inside.Appending.{Appends}
-use Rattle.rt_connect.specs.declared.lost.Lost.{Lost}
-use Rattle.rt_connect.specs.declared.heard.Heard.{Heard}
-use Rattle.rt_connect.specs.declared.heard.Heard.TheVariants as heard
-use Rattle.rt_connect.specs.declared.heard.Told.{Told}
+use Rattle.rt_connect.specs.declared.handshake.Lost.{Lost}
+use Rattle.rt_connect.specs.declared.link.Heard.{Heard}
+use Rattle.rt_connect.specs.declared.link.Heard.TheVariants as heard
+use Rattle.rt_connect.specs.declared.link.Told.{Told}
 use Rattle.rt_connect.specs.Doing.{Seats, disconnected}
 use Rattle.rt_connect.specs.Driving.{HasSent, PrintsHeard, PrintsLost, PrintsStep}
 use Rattle.rt_connect.specs.Driving.{PrintsTaken, PrintsTold, goes_on}

@@ -4,8 +4,8 @@ use Rattle.std.proofs.Common.{Option, Some, None}
 use Rattle.std.specs.Prelude.{IfOk}
 use Rattle.rt_socket.specs.declared.lost.Lost.{Lost as SocketLost}
 use Rattle.rt_socket.specs.declared.wire.Heard.{Heard as SocketHeard}
-use Rattle.rt_connect.specs.declared.lost.Lost.{Lost}
-use Rattle.rt_connect.specs.declared.lost.Lost.TheVariants.{Kept, Socket}
+use Rattle.rt_connect.specs.declared.handshake.Lost.{Lost}
+use Rattle.rt_connect.specs.declared.handshake.Lost.TheVariants.{Kept, Socket}
 use Rattle.rt_connect.specs.Ending.{Ends, HearsEnd, Passes, PassesOver, end_of}
 
 -- what was given says that

@@ -1,9 +1,9 @@
 -- What is heard of a server, message by message.
 use Rattle.std.proofs.Common.{◌≡◌, ℕ, zero, suc, ◌+◌, ◌-◌, ◌<◌, arith, Option, Some, None, refl, sym, subst}
 use Rattle.rt_socket.specs.declared.wire.Heard.{Heard as SocketHeard}
-use Rattle.rt_connect.specs.declared.lost.Lost.TheVariants.{Pings}
-use Rattle.rt_connect.specs.declared.heard.Heard.{Heard}
-use Rattle.rt_connect.specs.declared.heard.Heard.TheVariants.{Ended}
+use Rattle.rt_connect.specs.declared.handshake.Lost.TheVariants.{Pings}
+use Rattle.rt_connect.specs.declared.link.Heard.{Heard}
+use Rattle.rt_connect.specs.declared.link.Heard.TheVariants.{Ended}
 use Rattle.rt_connect.specs.Hearing.{Hears, HearsAfter, HearsLast, Passes, told_of}
 
 -- so far pings and pongs were passed over, and so many may still come

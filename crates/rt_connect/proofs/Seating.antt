@@ -8,15 +8,15 @@ use Rattle.std.proofs.lemmas.List.{set-get_or, set-set}
 use Rattle.std.proofs.lemmas.Option.{slice_get_past, slice_get_read}
 use Rattle.rt_wire.specs.Server.{server_message}
 use Rattle.rt_wire.specs.declared.error.WireError.TheVariants.{NotJson}
-use Rattle.rt_world.specs.declared.call.Call.{Call}
+use Rattle.rt_world.specs.declared.step.Call.{Call}
 use Rattle.rt_client.specs.Calls.{Locked, Seated}
 use Rattle.rt_client.specs.declared.error.ClientError.TheVariants.{WrongSeat}
 use Rattle.rt_lines.specs.Printing as lines
 use Rattle.rt_lines.specs.declared.error.Refusal.TheVariants.{Wire}
 use Rattle.rt_lines.specs.declared.order.Order.{Order}
 use Rattle.rt_lines.specs.declared.order.Order.TheVariants as kinds
-use Rattle.rt_connect.specs.declared.heard.Told.{Told}
-use Rattle.rt_connect.specs.declared.heard.Told.TheVariants.{Text, Binary}
+use Rattle.rt_connect.specs.declared.link.Told.{Told}
+use Rattle.rt_connect.specs.declared.link.Told.TheVariants.{Text, Binary}
 use Rattle.rt_connect.specs.Doing.{Calls, CallsSeat, ClosesAt, ClosesSeat, IsCalled, IsClosed, Obeys, Seats}
 use Rattle.rt_connect.specs.Doing.{Shows, TakesTold, open_in, seat_at}
 use Rattle.rt_connect.specs.Printing.{refusal_text}

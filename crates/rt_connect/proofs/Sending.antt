@@ -4,7 +4,7 @@ use Rattle.std.proofs.Common.{Option, None, refl, sym, ap, subst, ◌∙◌}
 use Rattle.std.proofs.lemmas.List.{drop_all, drop_more}
 use Rattle.rt_socket.specs.declared.lost.Lost.{Lost}
 use Rattle.rt_wire.specs.declared.client.ClientMessage.{ClientMessage}
-use Rattle.rt_connect.specs.declared.heard.Told.{Told}
+use Rattle.rt_connect.specs.declared.link.Told.{Told}
 use Rattle.rt_connect.specs.Ahead.{ReadAhead, has_way, noted_of, with_kept, with_sent}
 use Rattle.rt_connect.specs.Sending.{Awaits, Linked, MakesWay, Sends, SendsAll, text_of}
 

@@ -7,22 +7,22 @@ use Rattle.rt_wire.specs.Server.{server_message}
 use Rattle.rt_wire.specs.declared.client.ClientMessage.{ClientMessage}
 use Rattle.rt_wire.specs.declared.error.WireError.{WireError}
 use Rattle.rt_wire.specs.declared.server.ServerMessage.{ServerMessage}
-use Rattle.rt_connect.specs.declared.ahead.Due.{Due}
-use Rattle.rt_connect.specs.declared.ahead.Name.{Name}
-use Rattle.rt_connect.specs.declared.ahead.Name.TheVariants.{Request, Listen}
-use Rattle.rt_connect.specs.declared.ahead.TheConstants.{COST, MAX_KEPT_BYTES, MAX_UNANSWERED_BYTES}
-use Rattle.rt_connect.specs.declared.heard.Heard.{Heard}
-use Rattle.rt_connect.specs.declared.heard.Heard.TheVariants.{Ended}
-use Rattle.rt_connect.specs.declared.heard.Heard.TheVariants as heard
-use Rattle.rt_connect.specs.declared.heard.Told.{Told}
-use Rattle.rt_connect.specs.declared.heard.Told.TheVariants.{Text, Binary}
+use Rattle.rt_connect.specs.declared.link.DueAnswer.{DueAnswer}
+use Rattle.rt_connect.specs.declared.link.Name.{Name}
+use Rattle.rt_connect.specs.declared.link.Name.TheVariants.{Request, Listen}
+use Rattle.rt_connect.specs.declared.link.TheConstants.{COST, MAX_KEPT_BYTES, MAX_UNANSWERED_BYTES}
+use Rattle.rt_connect.specs.declared.link.Heard.{Heard}
+use Rattle.rt_connect.specs.declared.link.Heard.TheVariants.{Ended}
+use Rattle.rt_connect.specs.declared.link.Heard.TheVariants as heard
+use Rattle.rt_connect.specs.declared.link.Told.{Told}
+use Rattle.rt_connect.specs.declared.link.Told.TheVariants.{Text, Binary}
 use Rattle.rt_connect.specs.Answers.{answer_to, answered_by}
 
 -- which messages are still to be answered, in the order in which they were sent, each with how many bytes
 -- were sent up to its end; how many bytes were sent, and how many of them were read as far as answers say;
 -- and the messages that were read ahead, in order
 pub record ReadAhead : Type 0 where
-  pub due : List Due
+  pub due : List DueAnswer
   pub sent : ℕ
   pub read : ℕ
   pub kept : List Told
@@ -45,7 +45,7 @@ is_same (Request id) (Listen tag) = false
 is_same (Listen tag) (Request id) = false
 
 -- nothing is to be answered
-abbrev pub owes_nothing : List Due → Bool
+abbrev pub owes_nothing : List DueAnswer → Bool
 owes_nothing [] = true
 owes_nothing (d ∷ ds) = false
 
@@ -55,7 +55,7 @@ abbrev pub has_way : ℕ → ReadAhead → Bool
 has_way len a = owes_nothing a.due || nat_le (a.sent - a.read + len) MAX_UNANSWERED_BYTES
 
 -- the answer that is due for a message, where it is answered
-abbrev pub due_for : Option Name → ℕ → List Due
+abbrev pub due_for : Option Name → ℕ → List DueAnswer
 due_for None sent = []
 due_for (Some name) sent = record { name = name; sent = sent } ∷ []
 
@@ -67,11 +67,11 @@ with_sent m len a = record a {
 }
 
 -- whether an answer of that name is due
-abbrev pub is_due : Name → List Due → Bool
+abbrev pub is_due : Name → List DueAnswer → Bool
 is_due name due = list_any (λ d. is_same d.name name) due
 
 -- how many bytes were sent up to the first that is due of that name, and what is due behind it
-abbrev pub up_to : Name → List Due → Option ℕ × List Due
+abbrev pub up_to : Name → List DueAnswer → Option ℕ × List DueAnswer
 up_to name [] = (None, [])
 up_to name (d ∷ ds) = if is_same d.name name then (Some d.sent, ds) else up_to name ds
 

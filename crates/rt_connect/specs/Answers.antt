@@ -5,8 +5,8 @@ use Rattle.rt_wire.specs.declared.client.ClientMessage.{ClientMessage}
 use Rattle.rt_wire.specs.declared.client.ClientMessage.TheVariants as client
 use Rattle.rt_wire.specs.declared.server.ServerMessage.{ServerMessage}
 use Rattle.rt_wire.specs.declared.server.ServerMessage.TheVariants as server
-use Rattle.rt_connect.specs.declared.ahead.Name.{Name}
-use Rattle.rt_connect.specs.declared.ahead.Name.TheVariants.{Request, Listen}
+use Rattle.rt_connect.specs.declared.link.Name.{Name}
+use Rattle.rt_connect.specs.declared.link.Name.TheVariants.{Request, Listen}
 
 -- what the answer to a message names; the version and the end of a listen are not answered
 abbrev pub answer_to : ClientMessage → Option Name

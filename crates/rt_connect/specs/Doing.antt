@@ -4,12 +4,12 @@ use Rattle.std.specs.Prelude.{◌≡◌, ◌≢◌, ◌⊎◌, ◌-◌, ◌==◌
 use Rattle.std.specs.Prelude.{List, [], ◌∷◌, set, Option, Some, None}
 use Rattle.std.specs.Option.{option_and_then}
 use Rattle.std.specs.List.{slice_get}
-use Rattle.rt_cover.specs.declared.kept.Kept.{Kept}
-use Rattle.rt_world.specs.declared.call.Call.{Call}
+use Rattle.rt_cover.specs.declared.listen.Kept.{Kept}
+use Rattle.rt_world.specs.declared.step.Call.{Call}
 use Rattle.rt_world.specs.declared.report.Outcome.{Outcome}
 use Rattle.rt_world.specs.declared.report.Outcome.TheVariants.{Done as IsDone}
 use Rattle.rt_world.specs.declared.step.Step.{Step}
-use Rattle.rt_client.specs.declared.done.Done.{Done}
+use Rattle.rt_client.specs.declared.shared.Done.{Done}
 use Rattle.rt_client.specs.declared.error.ClientError.{ClientError}
 use Rattle.rt_client.specs.declared.error.ClientError.TheVariants.{NoMemory, WrongSeat}
 use Rattle.rt_client.specs.Calls.{Comes, Locked, MakesCall, RefusesCall, RefusesOn, Seated}
@@ -21,8 +21,8 @@ use Rattle.rt_lines.specs.declared.order.Order.{Order}
 use Rattle.rt_lines.specs.declared.order.Order.TheVariants as order
 use Rattle.rt_wire.specs.declared.error.WireError.TheVariants.{NotJson}
 use Rattle.rt_wire.specs.Server.{server_message}
-use Rattle.rt_connect.specs.declared.heard.Told.{Told}
-use Rattle.rt_connect.specs.declared.heard.Told.TheVariants.{Text, Binary}
+use Rattle.rt_connect.specs.declared.link.Told.{Told}
+use Rattle.rt_connect.specs.declared.link.Told.TheVariants.{Text, Binary}
 use Rattle.rt_connect.specs.Printing.{refusal_text}
 use Rattle.rt_connect.specs.Taking.{Takes}
 

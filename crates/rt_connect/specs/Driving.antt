@@ -6,10 +6,10 @@ use Rattle.rt_world.specs.declared.step.Step.{Step}
 use Rattle.rt_world.specs.declared.step.Step.TheVariants.{Disconnected}
 use Rattle.rt_client.specs.Calls.{Locked}
 use Rattle.rt_lines.specs.declared.order.Order.{Order}
-use Rattle.rt_connect.specs.declared.heard.Heard.{Heard}
-use Rattle.rt_connect.specs.declared.heard.Heard.TheVariants.{Ended}
-use Rattle.rt_connect.specs.declared.heard.Heard.TheVariants as heard
-use Rattle.rt_connect.specs.declared.heard.Told.{Told}
+use Rattle.rt_connect.specs.declared.link.Heard.{Heard}
+use Rattle.rt_connect.specs.declared.link.Heard.TheVariants.{Ended}
+use Rattle.rt_connect.specs.declared.link.Heard.TheVariants as heard
+use Rattle.rt_connect.specs.declared.link.Told.{Told}
 use Rattle.rt_connect.specs.Doing.{IsTold, Obeys, Seats, TakesTold, disconnected}
 use Rattle.rt_connect.specs.Sending.{Linked, SendsAll}
 use Rattle.rt_connect.specs.Telling.{TellsAll}

@@ -4,8 +4,8 @@ use Rattle.std.specs.Prelude.{if◌then◌else◌}
 use Rattle.rt_socket.specs.declared.lost.Lost.{Lost as SocketLost}
 use Rattle.rt_socket.specs.declared.wire.Heard.{Heard as SocketHeard}
 use Rattle.rt_socket.specs.declared.wire.Heard.TheVariants as socket
-use Rattle.rt_connect.specs.declared.lost.Lost.{Lost}
-use Rattle.rt_connect.specs.declared.lost.Lost.TheVariants.{Kept, Socket, Unclosed}
+use Rattle.rt_connect.specs.declared.handshake.Lost.{Lost}
+use Rattle.rt_connect.specs.declared.handshake.Lost.TheVariants.{Kept, Socket, Unclosed}
 use Rattle.rt_connect.specs.Doing.{disconnected}
 
 -- how it ended, where that was heard: a server of which nothing comes for a moment does not close it

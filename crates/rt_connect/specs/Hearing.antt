@@ -3,11 +3,11 @@ use Rattle.std.specs.Prelude.{◌≡◌, ◌+◌, ℕ, zero, suc, Option, Some, 
 use Rattle.rt_socket.specs.declared.lost.Lost.TheVariants.{Silent}
 use Rattle.rt_socket.specs.declared.wire.Heard.{Heard as SocketHeard}
 use Rattle.rt_socket.specs.declared.wire.Heard.TheVariants as socket
-use Rattle.rt_connect.specs.declared.heard.Heard.{Heard}
-use Rattle.rt_connect.specs.declared.heard.Heard.TheVariants.{Ended}
-use Rattle.rt_connect.specs.declared.heard.Heard.TheVariants as heard
-use Rattle.rt_connect.specs.declared.heard.Told.TheVariants.{Text, Binary}
-use Rattle.rt_connect.specs.declared.lost.Lost.TheVariants.{Pings, Socket}
+use Rattle.rt_connect.specs.declared.link.Heard.{Heard}
+use Rattle.rt_connect.specs.declared.link.Heard.TheVariants.{Ended}
+use Rattle.rt_connect.specs.declared.link.Heard.TheVariants as heard
+use Rattle.rt_connect.specs.declared.link.Told.TheVariants.{Text, Binary}
+use Rattle.rt_connect.specs.declared.handshake.Lost.TheVariants.{Pings, Socket}
 
 -- a text and a binary message are told, and a ping and a pong are passed over; nothing is the end, of a server
 -- that was waited for

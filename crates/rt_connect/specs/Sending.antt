@@ -4,7 +4,7 @@ use Rattle.serde_json.specs.Written.{compact_text}
 use Rattle.rt_socket.specs.declared.lost.Lost.{Lost}
 use Rattle.rt_wire.specs.ClientData.{client_data}
 use Rattle.rt_wire.specs.declared.client.ClientMessage.{ClientMessage}
-use Rattle.rt_connect.specs.declared.heard.Told.{Told}
+use Rattle.rt_connect.specs.declared.link.Told.{Told}
 use Rattle.rt_connect.specs.Ahead.{ReadAhead, has_way, noted_of, with_kept, with_sent}
 
 -- the text of a message to the server

@@ -9,18 +9,11 @@
 //! `rt_client`'s.
 #![tactic(auto)]
 
-mod ahead;
-mod driven;
-mod heard;
+mod handshake;
 mod link;
-mod lost;
-mod opening;
-mod say;
 mod seats;
-mod tell;
+mod session;
 
-pub use ahead::{MAX_KEPT_BYTES, MAX_UNANSWERED_BYTES};
-pub use driven::{drive, drive_logged};
-pub use heard::MAX_PINGS;
-pub use seats::{Seats, obey, open_seats, settle_all};
-pub use tell::write_why;
+pub use link::{MAX_KEPT_BYTES, MAX_PINGS, MAX_UNANSWERED_BYTES};
+pub use seats::{Seats, obey, open_seats, settle_all, write_why};
+pub use session::{drive, drive_logged};

@@ -1,22 +1,25 @@
 // What lines and messages ask of a client's locked value and its seats, and what they print.
-ghost use Rattle.std.specs.Prelude.{◌≡◌, ◌+◌, ◌<◌, ◌++◌, ℕ, List, [], false, true, length, map};
-ghost use Rattle.std.specs.Prelude.{Some, None, IfOk, IfSome, OnOk};
+ghost use Rattle.std.specs.Prelude.{◌≡◌, ◌+◌, ◌<◌, ◌++◌, ℕ, List, [], false, true, length, map, Some, None};
+ghost use Rattle.std.specs.Prelude.{IfOk, IfSome, OnOk, ◌≢◌};
 ghost use Rattle.std.specs.Option.{option_map};
-ghost use Rattle.rt_world.specs.declared.step.Step.TheVariants as step;
 ghost use Rattle.rt_wire.specs.Server.{server_message};
 ghost use Rattle.rt_client.specs.Delivery.{emptied};
 ghost use Rattle.rt_lines.specs.inside.Appending.{Appends};
 ghost use Rattle.rt_connect.specs.Doing.{Calls, ClosesAt, IsCalled, IsClosed, IsTold, Obeys, Shows};
 ghost use Rattle.rt_connect.specs.Doing.{TakesTold, disconnected, seat_at};
-ghost use Rattle.rt_connect.specs.Printing.{items_text};
+ghost use Rattle.rt_connect.specs.Printing.{items_text, item_text, own_refusal, refusal_text};
 ghost use Rattle.rt_connect.specs.Taking.{Takes};
 ghost use Rattle.rt_connect.specs.Telling.{FillsRing, TellsAll, TellsPlace, TellsSeat};
 ghost use Rattle.rt_connect.specs.inside.Waiting.{waiting_of, without_waiting};
+ghost use Rattle.rt_world.specs.declared.step.Step.TheVariants as step;
 
-use crate::heard::Told;
-use crate::tell::{write_item, write_why};
+use crate::link::Told;
 use rt_client::{Call, ClientError, Seat, Shared, with_seat};
-use rt_lines::{Order, Refusal, write_cover, write_outcome, write_refusal};
+use rt_lines::{
+    Order, Refusal, write_batch, write_cancelled, write_cover, write_outcome, write_refusal,
+    write_refused, write_settled,
+};
+use rt_mail::Item;
 use rt_wire::{ServerMessage, WireError};
 use rt_world::{ClientMessage, Outcome};
 use std::alloc::{AllocError, Global};
@@ -369,4 +372,40 @@ pub fn settle_all(
     ensures rings { OnOk result (seats.new.items ≡ map (option_map emptied) seats.old.items) }
 {
     settle_each(out, alloc, shared, seats.as_mut_slice())
+}
+
+// ---- what is printed of a client: what its seats are told, and why its calls are refused
+
+// Prints what a seat is told: a batch, a settled request, the end of a listener. Receipts print nothing.
+pub(crate) fn write_item(out: &mut String, alloc: Global, item: &Item) -> Result<(), AllocError>
+    ensures { OnOk result (Appends out.old out.new (item_text item.now)) }
+{
+    match item {
+        Item::Receipt(_) => Ok(()),
+        Item::Batch(batch) => write_batch(out, alloc, batch),
+        Item::Settled { id, why } => write_settled(out, alloc, *id, why),
+        Item::Cancelled { listener, why } => write_cancelled(out, alloc, *listener, why),
+    }
+}
+
+// Prints why the client itself refuses a call.
+fn write_own(out: &mut String, why: ClientError) -> Result<(), AllocError>
+    ensures { OnOk result (Appends out.old out.new (own_refusal why)) }
+{
+    write_refused(out, "client", why.code(), why.name())
+}
+
+/// Prints why a client refuses: `refused LAYER CODE NAME`. Want of memory, which ends a run, is not printed.
+pub fn write_why(out: &mut String, why: ClientError) -> Result<(), AllocError>
+    ensures printed { OnOk result (Appends out.old out.new (refusal_text why)) }
+    ensures memory { OnOk result (why ≢ ClientError.NoMemory) }
+{
+    match why {
+        ClientError::NoMemory => Err(AllocError),
+        ClientError::Core(refused) => write_refusal(out, Refusal::Core(refused)),
+        ClientError::Failed
+        | ClientError::WrongSeat
+        | ClientError::MailboxFull
+        | ClientError::TooManySeats => write_own(out, why),
+    }
 }

@@ -3,9 +3,9 @@
 #![tactic(auto)]
 
 mod arguments;
-mod shown;
+mod display;
 
-use crate::shown::{Shape, Showing};
+use crate::display::{Shape, Showing};
 use rt_commands::{
     Asked, ConnectFault, PROGRAM, Serving, Work, connect, explain, read_words, run_logged, serve,
 };
@@ -14,13 +14,13 @@ use rt_input::{ConsoleError, Fault, Log, Reading, Silent, Telling, Writing};
 use rt_watch::{WatchFault, Watching, watch};
 use std::alloc::Global;
 use std::fmt::Display;
+use std::io;
 use std::net::{Ipv4Addr, Net, SocketAddr};
 use std::process::ExitCode;
 use std::random::RandomSource;
 use std::sync::Wait;
-use std::thread::Threads;
+use std::thread::{self, Threads};
 use std::time::Clock;
-use std::{io, thread};
 
 // Says why the program ends, and answers the exit status of a fault.
 fn say_fault<E: Display>(rt: &HostRuntime, fault: &E) -> u8 {

@@ -20,7 +20,7 @@ use Rattle.rt_query.specs.laws.QueryEq.{query_eq_tells}
 use Rattle.rt_query.specs.laws.RangeLaws.{taken_in}
 use Rattle.rt_cover.specs.Cover.{Registered, Tagged, forms}
 use Rattle.rt_cover.specs.State.{shown_with}
-use Rattle.rt_cover.specs.declared.kept.Kept.{Kept}
+use Rattle.rt_cover.specs.declared.listen.Kept.{Kept}
 use Rattle.rt_cover.specs.inside.Endings.{left}
 use Rattle.rt_cover.specs.laws.FormLaws.{form_unfiltered, supply_filtered, supply_unfiltered}
 use Rattle.rt_cover.specs.laws.Pairs.{filter_all, All-from_contained, Contains-head, Contains-later}

@@ -1,10 +1,10 @@
 -- The listens by path: who supplies a query, and what a new one takes over.
-use Rattle.std.proofs.Common.{◌≡◌, ◌≢◌, ℕ, ◌+◌, ◌<◌, ◌≤◌, ◌==◌, nat_lt, Bool, true, false, cond, not, ◌&&◌, ◌⊎◌, inl, inr, ◌||◌, List, [], ◌∷◌, map, length, take, refl, sym, ap, subst, ◌∙◌, arith, eqb-true, eq-eqb, ltb-true, ltb-false, Option, Some, None, is_some, IfSome, IfNone}
+use Rattle.std.proofs.Common.{◌≡◌, ◌≢◌, ℕ, ◌+◌, ◌<◌, ◌≤◌, ◌==◌, nat_lt, Bool, true, false, cond, not, ◌&&◌, ◌⊎◌, inl, inr, ◌||◌, List, [], ◌∷◌, map, length, get_or, take, refl, sym, ap, subst, ◌∙◌, arith, eqb-true, eq-eqb, ltb-true, ltb-false, Option, Some, None, is_some, IfSome, IfNone}
 use mathlib.Core.Bool.{true≢false}
-use Rattle.std.specs.List.{filter, find, list_any, All, AllPairs, Contains}
+use Rattle.std.specs.List.{filter, find, list_any, slice_get, All, AllPairs, Contains}
 use Rattle.std.specs.List.Sorted.{IsNonDecreasingBy}
 use Rattle.std.specs.Option.{option_map, option_map_or}
-use Rattle.std.proofs.lemmas.List.Elements.{All-contains}
+use Rattle.std.proofs.lemmas.List.Elements.{All-contains, Contains-get_or}
 use Rattle.std.proofs.lemmas.List.Folds.{Any-from_list_any}
 use Rattle.std.proofs.lemmas.List.Kept.{AllPairs-filter}
 use Rattle.rt_tree.specs.PathTree.{Path, path_eq, path_eq-is, path_eq-same, strip, strip-some, strip-crossed}
@@ -16,7 +16,7 @@ use Rattle.rt_query.specs.Supply.{does_supply}
 use Rattle.rt_cover.specs.Cover.{Tagged, Supplies, forms}
 use Rattle.rt_cover.specs.State.{Cover, supplier}
 use Rattle.rt_cover.specs.Shown.{IsLeastSupplier}
-use Rattle.rt_cover.specs.inside.Index.{form_of, SameCounts}
+use Rattle.rt_cover.specs.inside.Index.{form_of, is_plain_beside, ArePlainsAlone, SameCounts}
 use Rattle.rt_cover.specs.inside.Least.{lesser, least_from, IsPlainOrLeast}
 use Rattle.rt_cover.specs.inside.Sound.{IsSound}
 use Rattle.rt_cover.specs.laws.CoverLaws.{Contains-from_filter, passes-from_filter}
@@ -100,7 +100,7 @@ above_short p q e = let r = rest_of_above p q e in omega (arith, length-strip p 
 
 -- ---- who supplies a query
 
-supplies_plain : (f q : Query) → not (is_filtered f) ≡ true → is_at_or_above f.path q.path ≡ true → does_supply f q ≡ true
+pub supplies_plain : (f q : Query) → not (is_filtered f) ≡ true → is_at_or_above f.path q.path ≡ true → does_supply f q ≡ true
 supplies_plain f q e above = supply_unfiltered f q (not_true (is_filtered f) e) ∙ above
 
 pub some_above : (q : Query) (t : ℕ) (ks : List Tagged) → list_any (λ k. is_at_or_above (k.form).path q.path && (is_plain k && k.tag == t)) ks ≡ true
@@ -191,6 +191,66 @@ ranges_there q ks none p is = All-from_contained (λ (k : Tagged). is_filtered k
   where
     at : Tagged → Bool
     at k = path_eq (k.form).path p
+
+-- ---- the plain one of a path
+
+nothing : (p : Tagged → Bool) (ks : List Tagged) → list_any p ks ≡ false → find p ks ≡ None
+nothing p [] e = refl
+nothing p (k ∷ ks) e = elim (p k) as (λ b. (b || list_any p ks) ≡ false → cond b (Some k) (find p ks) ≡ None) [
+  | true ↦ λ f. absurd (true≢false f)
+  | false ↦ λ f. nothing p ks f
+] e
+
+the_first : (k x : Tagged) → Some k ≡ Some x → k ≡ x
+the_first k x e = ap (λ o. option_map_or (λ (y : Tagged). y) o k) e
+
+-- of no listens none is
+pub plain_of_none : (ks : List Tagged) → None ≡ slice_get ks 0
+    → None ≡ option_map (λ (k : Tagged). k.tag) (find (λ (k : Tagged). not (is_filtered k.form)) ks)
+plain_of_none [] e = refl
+plain_of_none (k ∷ ks) e = absurd (true≢false (sym (ap is_some e)))
+
+-- the first one is
+pub plain_of_first : (k : Tagged) (ks : List Tagged) → Some k ≡ slice_get ks 0 → is_filtered k.form ≡ false
+    → Some k.tag ≡ option_map (λ (x : Tagged). x.tag) (find (λ (x : Tagged). not (is_filtered x.form)) ks)
+plain_of_first k [] e flat = absurd (true≢false (ap is_some e))
+plain_of_first k (x ∷ ks) e flat =
+    let is : k ≡ x = the_first k x e in
+    ap (λ (y : Tagged). Some y.tag) is
+    ∙ sym (ap (λ b. option_map (λ (y : Tagged). y.tag) (cond (not b) (Some x) (find (λ (y : Tagged). not (is_filtered y.form)) ks)))
+    (ap (λ (y : Tagged). is_filtered y.form) (sym is) ∙ flat))
+
+-- where it is a range, and all are then, none is
+pub plain_of_ranges : (k : Tagged) (ks : List Tagged) → Some k ≡ slice_get ks 0 → is_filtered k.form ≡ true
+    → ((d : Tagged) → is_filtered (get_or ks 0 d).form ≡ true → list_any (λ (x : Tagged). not (is_filtered x.form)) ks ≡ false)
+    → None ≡ option_map (λ (x : Tagged). x.tag) (find (λ (x : Tagged). not (is_filtered x.form)) ks)
+plain_of_ranges k [] e own all = refl
+plain_of_ranges k (x ∷ ks) e own all =
+    sym (ap (option_map (λ (y : Tagged). y.tag)) (nothing (λ (y : Tagged). not (is_filtered y.form)) (x ∷ ks)
+    (all k (ap (λ (y : Tagged). is_filtered y.form) (sym (the_first k x e)) ∙ own))))
+
+-- of the listens of a path all are ranges if the first is
+pub all_as_first : (p : Path) (ks : List Tagged) → ArePlainsAlone form_of ks → (d : Tagged)
+    → is_filtered (get_or (filter (λ (k : Tagged). path_eq (k.form).path p) ks) 0 d).form ≡ true
+    → list_any (λ (k : Tagged). not (is_filtered k.form)) (filter (λ (k : Tagged). path_eq (k.form).path p) ks) ≡ false
+all_as_first p ks alone d own = fails (list_any (λ (k : Tagged). not (is_filtered k.form)) (filter at ks)) (λ e.
+    let a = Any-from_list_any (λ (k : Tagged). not (is_filtered k.form)) (filter at ks) e in
+    let there : 0 < length (filter at ks) = omega (arith, a.2) in
+    let first : Tagged = get_or (filter at ks) 0 d in
+    let m : Contains (filter at ks) first = Contains-get_or (filter at ks) 0 d there in
+    let same : path_eq ((a.1).form).path (first.form).path ≡ true =
+    subst (λ z. path_eq ((a.1).form).path z ≡ true) (own_path a.1 (a.0, a.2, a.3) ∙ sym (own_path first m)) (path_eq-same ((a.1).form).path) in
+    let beside : is_plain_beside (a.1).form first.form ≡ true =
+    both (not (is_filtered (a.1).form)) (is_filtered first.form && path_eq ((a.1).form).path (first.form).path) a.4
+    (both (is_filtered first.form) (path_eq ((a.1).form).path (first.form).path) own same) in
+    true≢false (sym (list_any_with (λ (x : Tagged). list_any (λ (y : Tagged). is_plain_beside x.form y.form) ks) ks a.1 (Contains-from_filter at ks a.1 (a.0, a.2, a.3))
+    (list_any_with (λ (y : Tagged). is_plain_beside (a.1).form y.form) ks first (Contains-from_filter at ks first m) beside)) ∙ alone))
+  where
+    at : Tagged → Bool
+    at k = path_eq (k.form).path p
+
+    own_path : (k : Tagged) → Contains (filter at ks) k → (k.form).path ≡ p
+    own_path k m = path_eq-is (k.form).path p (passes-from_filter at ks k m)
 
 -- ---- the least of some tags
 

@@ -4,9 +4,9 @@ use mathlib.Core.Bool.{true≢false}
 use Rattle.std.specs.List.{All, AllPairs}
 use Rattle.std.specs.Option.{option_map_or}
 use Rattle.rt_query.specs.Supply.{form}
-use Rattle.rt_cover.specs.declared.delta.Delta.{Delta}
+use Rattle.rt_cover.specs.declared.change.Delta.{Delta}
 use Rattle.rt_cover.specs.declared.error.CoverError.TheVariants.{UnknownListener, UnknownTag, NoTag}
-use Rattle.rt_cover.specs.declared.kept.Kept.{Kept}
+use Rattle.rt_cover.specs.declared.listen.Kept.{Kept}
 use Rattle.rt_cover.specs.Cover.{Registered, Tagged}
 use Rattle.rt_cover.specs.State.{Cover, empty_cover, with_listener, without_listeners, left_after, with_listeners, started_for, shown_with, difference, listen_at, lacks_tag, fault_of, has_unknown}
 use Rattle.rt_cover.specs.inside.Sound.{IsSound}

@@ -8,6 +8,7 @@ use Rattle.std.proofs.lemmas.List.{get_or_default, get_or-take, get_or-drop, len
 use Rattle.std.proofs.lemmas.List.Elements.{All-contains}
 use Rattle.std.proofs.lemmas.List.Folds.{Any-from_list_any, list_any-append}
 use Rattle.rt_tree.specs.PathTree.{Path, path_eq, path_eq-is, path_eq-same}
+use Rattle.rt_tree.specs.Assignments.{is_at_or_above}
 use Rattle.rt_tree.specs.TreeEq.{both, both_first, both_second}
 use Rattle.rt_query.specs.Queries.{Query, is_filtered}
 use Rattle.rt_query.specs.QueryEq.{query_eq}
@@ -19,16 +20,17 @@ use Rattle.rt_query.specs.laws.SupplyLaws.{supplies_as_range}
 use Rattle.rt_cover.specs.Cover.{Registered, Tagged, forms}
 use Rattle.rt_cover.specs.State.{Cover}
 use Rattle.rt_cover.specs.inside.Endings.{has_supplied, is_range_at}
-use Rattle.rt_cover.specs.inside.Index.{by_form, form_of, is_taker, AreApart, SameCounts}
+use Rattle.rt_cover.specs.inside.Index.{by_form, form_of, is_plain_beside, is_taker, AreApart, ArePlainsAlone, SameCounts}
 use Rattle.rt_cover.specs.inside.Sound.{IsSound}
 use Rattle.rt_cover.specs.laws.CoverLaws.{Contains-from_filter}
 use Rattle.rt_cover.specs.laws.FormLaws.{supplied_is_filtered, supplied_has_path}
+use Rattle.rt_cover.specs.laws.Paths.{is_at_or_above-same}
 use Rattle.rt_cover.specs.laws.ShownLaws.{needed_alone}
 use Rattle.rt_cover.proofs.ByPathLaws.{list_any_agreed, list_any_implied}
 use Rattle.rt_cover.proofs.ChangeLaws.{list_any_beside, list_any_swapped}
 use Rattle.rt_cover.proofs.CountLaws.{same_any}
 use Rattle.rt_cover.proofs.HeldLaws.{absorbed}
-use Rattle.rt_cover.proofs.ListenLaws.{fails}
+use Rattle.rt_cover.proofs.ListenLaws.{fails, supplies_plain}
 use Rattle.rt_cover.proofs.NewLaws.{kept_needed, kept_registered}
 use Rattle.rt_cover.proofs.SearchLaws.{are_up}
 use Rattle.rt_cover.proofs.StartLaws.{list_any_with}
@@ -62,13 +64,18 @@ any_same xs ys h f e = sym (same_any f ys xs h) ∙ e
 
 -- ---- apart
 
+-- where no two elements of a list stand in a relation, no two of fewer do
+pairs_fewer : {X : Type 0} (r : X → X → Bool) (xs ys : List X) → ((f : X → Bool) → list_any f ys ≡ true → list_any f xs ≡ true)
+    → list_any (λ x. list_any (r x) xs) xs ≡ false → list_any (λ x. list_any (r x) ys) ys ≡ false
+pairs_fewer r xs ys less none = fails (list_any (λ x. list_any (r x) ys) ys)
+    (λ e. true≢false (sym (less (λ x. list_any (r x) xs) (list_any_implied (λ x. list_any (r x) ys) (λ x. list_any (r x) xs) (λ x h. less (r x) h) ys e)) ∙ none))
+
 -- so are fewer
 pub apart_fewer : {X : Type 0} (q : X → Query) (xs ys : List X) → ((f : X → Bool) → list_any f ys ≡ true → list_any f xs ≡ true) → AreApart q xs → AreApart q ys
-apart_fewer {X = X} q xs ys less apart = fails (list_any (in_list ys) ys)
-    (λ e. true≢false (sym (less (in_list xs) (list_any_implied (in_list ys) (in_list xs) (λ x h. less (λ y. is_taker (q x) (q y)) h) ys e)) ∙ apart))
-  where
-    in_list : List X → X → Bool
-    in_list zs x = list_any (λ y. is_taker (q x) (q y)) zs
+apart_fewer q xs ys less apart = pairs_fewer (λ x y. is_taker (q x) (q y)) xs ys less apart
+
+pub alone_fewer : {X : Type 0} (q : X → Query) (xs ys : List X) → ((f : X → Bool) → list_any f ys ≡ true → list_any f xs ≡ true) → ArePlainsAlone q xs → ArePlainsAlone q ys
+alone_fewer q xs ys less alone = pairs_fewer (λ x y. is_plain_beside (q x) (q y)) xs ys less alone
 
 -- the kept listens are
 pub kept_ranges_apart : (c : Cover) → IsSound c → AreApart form_of c.kept
@@ -83,6 +90,24 @@ kept_ranges_apart c s = fails (list_any taking c.kept) (λ e.
   where
     taking : Tagged → Bool
     taking x = list_any (λ (y : Tagged). is_taker x.form y.form) c.kept
+
+-- and no range is kept at the path of a plain one, which supplies it
+pub kept_plains_alone : (c : Cover) → IsSound c → ArePlainsAlone form_of c.kept
+kept_plains_alone c s = fails (list_any beside c.kept) (λ e.
+    let a = Any-from_list_any beside c.kept e in
+    let b = Any-from_list_any (λ (y : Tagged). is_plain_beside (a.1).form y.form) c.kept a.4 in
+    let f : Query = (a.1).form in
+    let g : Query = (b.1).form in
+    let plain : not (is_filtered f) ≡ true = both_first (not (is_filtered f)) (is_filtered g && path_eq f.path g.path) b.4 in
+    let range : (is_filtered g && path_eq f.path g.path) ≡ true = both_second (not (is_filtered f)) (is_filtered g && path_eq f.path g.path) b.4 in
+    let filtered : is_filtered g ≡ true = both_first (is_filtered g) (path_eq f.path g.path) range in
+    let there : f.path ≡ g.path = path_eq-is f.path g.path (both_second (is_filtered g) (path_eq f.path g.path) range) in
+    let same : f ≡ g = needed_alone (forms c.listeners) g f (kept_needed c s b.1 (b.0, b.2, b.3)) (kept_registered c s a.1 (a.0, a.2, a.3))
+    (supplies_plain f g plain (subst (λ p. is_at_or_above f.path p ≡ true) there (is_at_or_above-same f.path))) in
+    true≢false (sym plain ∙ ap (λ q. not (is_filtered q)) same ∙ ap not filtered))
+  where
+    beside : Tagged → Bool
+    beside x = list_any (λ (y : Tagged). is_plain_beside x.form y.form) c.kept
 
 -- ---- in order
 

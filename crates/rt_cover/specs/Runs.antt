@@ -2,7 +2,7 @@
 use Rattle.std.specs.Prelude.{ℕ, if◌then◌else◌, List, [], ◌∷◌, ◌++◌, map, Option, is_some}
 use Rattle.std.specs.List.{fold}
 use Rattle.rt_query.specs.Queries.{Query}
-use Rattle.rt_cover.specs.declared.delta.Delta.{Delta}
+use Rattle.rt_cover.specs.declared.change.Delta.{Delta}
 use Rattle.rt_cover.specs.declared.error.CoverError.{CoverError}
 use Rattle.rt_cover.specs.State.{Cover, added, removed, revoked, difference, without_tag}
 use Rattle.rt_cover.specs.State.{add_fault, remove_fault, revoke_fault}

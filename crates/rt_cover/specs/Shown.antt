@@ -2,8 +2,8 @@
 use Rattle.std.specs.Prelude.{◌≡◌, ◌≢◌, ℕ, zero, suc, ◌+◌, ◌<◌, ◌≤◌, List, [], ◌∷◌, map, length}
 use Rattle.std.specs.List.{All, AllPairs, Any, Contains}
 use Rattle.rt_query.specs.Queries.{Query}
-use Rattle.rt_cover.specs.declared.delta.Delta.{Delta}
-use Rattle.rt_cover.specs.declared.kept.Kept.{Kept}
+use Rattle.rt_cover.specs.declared.change.Delta.{Delta}
+use Rattle.rt_cover.specs.declared.listen.Kept.{Kept}
 use Rattle.rt_cover.specs.Cover.{Registered, Supplies, IsFewest, forms, Tagged}
 
 -- ---- what is shown

@@ -7,11 +7,11 @@ use Rattle.std.specs.Option.{option_map, option_map_or}
 use Rattle.rt_query.specs.Queries.{Query}
 use Rattle.rt_query.specs.QueryEq.{query_eq}
 use Rattle.rt_query.specs.Supply.{form, does_supply}
-use Rattle.rt_cover.specs.declared.delta.Delta.{Delta}
+use Rattle.rt_cover.specs.declared.change.Delta.{Delta}
 use Rattle.rt_cover.specs.declared.error.CoverError.{CoverError}
 use Rattle.rt_cover.specs.declared.error.CoverError.TheVariants.{UnknownListener, UnknownTag}
 use Rattle.rt_cover.specs.declared.error.CoverError.TheVariants.{NoTag, NoMemory}
-use Rattle.rt_cover.specs.declared.kept.Kept.{Kept}
+use Rattle.rt_cover.specs.declared.listen.Kept.{Kept}
 use Rattle.rt_cover.specs.Cover.{Registered, forms, first_listener, needed, Tagged, started}
 use Rattle.rt_cover.specs.Cover.{kept_for}
 

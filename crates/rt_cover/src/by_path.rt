@@ -1,5 +1,6 @@
 // Listens in the order of their forms: those of one path stand together. Each is found by halving.
-ghost use Rattle.std.specs.Prelude.{◌≡◌, ◌≤◌, true, false, not, length};
+ghost use Rattle.std.specs.Prelude.{◌≡◌, ◌≤◌, true, false, not, length, ◌<◌, ◌+◌, ◌++◌, ◌∷◌, [], vec_len};
+ghost use Rattle.std.specs.Prelude.{vec_capacity};
 ghost use Rattle.std.specs.List.{filter, list_any, All};
 ghost use Rattle.std.specs.List.Sorted.{IsPartitionPoint, IsSorted};
 ghost use Rattle.std.specs.Ordering.{is_lt, is_le, is_gt};
@@ -10,7 +11,7 @@ ghost use Rattle.rt_query.specs.QueryEq.{query_eq};
 ghost use Rattle.rt_query.specs.QueryOrder.{query_cmp, unlimited};
 ghost use Rattle.rt_query.specs.Ranges.{takes_in};
 ghost use Rattle.rt_query.specs.Supply.{does_supply};
-ghost use Rattle.rt_cover.specs.inside.Index.{by_form, AreApart};
+ghost use Rattle.rt_cover.specs.inside.Index.{by_form, AreApart, SameCounts};
 
 use rt_query::{Query, query_cmp, unlimited_cmp};
 use rt_tree::{Key, Path};
@@ -148,4 +149,19 @@ pub(crate) fn supply<T: HasForm>(by_path: &[T], query: &Query) -> bool
     ensures { result ≡ list_any (λ x. does_supply (T.form_of x) query.now) by_path.now }
 {
     has_form(by_path, query) || take_in(by_path, query)
+}
+
+// ---- one more in a list in the order of forms
+
+// Puts it in its place; there is room for it.
+pub(crate) fn place<T: HasForm + Drop>(by_path: &mut Vec<T>, item: T)
+    requires sorted { IsSorted (by_form T.form_of) by_path.old.items }
+    requires room { vec_len by_path.old < vec_capacity by_path.old }
+    ensures sorted { IsSorted (by_form T.form_of) by_path.new.items }
+    ensures same { SameCounts by_path.new.items (by_path.old.items ++ item ∷ []) }
+    ensures len { vec_len by_path.new ≡ vec_len by_path.old + 1 }
+    ensures room { vec_capacity by_path.old ≤ vec_capacity by_path.new }
+{
+    let at = place_of_form(by_path, item.form());
+    let _in_reserved_room = by_path.insert(at, item);
 }

@@ -5,24 +5,15 @@ ghost use Rattle.std.specs.Prelude.{if◌then◌else◌};
 ghost use Rattle.std.specs.List.{find, list_any, All, enumerate_from};
 ghost use Rattle.std.specs.Option.{option_copied, option_map, option_map_or};
 
-use crate::adding::started_one;
-use crate::beginning::numbers_begun;
-use crate::behind::{is_first, is_left};
 use crate::by_path::HasForm;
-use crate::choice::Choice;
-use crate::delta::{Delta, Revoked};
-use crate::ending::{Ending, OfChoice, OfNumbers};
-use crate::entering::enter;
+use crate::change::{self, Choice, Delta, Ending, OfChoice, OfNumbers, Plan, Revoked};
 use crate::error::CoverError;
-use crate::kept::KeptList;
-use crate::listen::{Listen, listens_at};
-use crate::listener::{Listener, into_form};
-use crate::listeners::Listeners;
+use crate::listen::{self, KeptList, Listen, listens_at};
+use crate::listeners::{Listener, Listeners, enter, forms, into_form, shown, started_one};
 use crate::listens::Listens;
 use crate::numbers::{Numbers, Sorted, add_some, sort_once};
-use crate::plan::Plan;
-use crate::shown::{forms, shown};
-use crate::{listen, starting};
+use crate::successors::numbers_begun;
+use crate::supply::{is_first, is_left};
 use rt_query::Query;
 use std::alloc::{AllocError, Global};
 use std::marker::Model;
@@ -267,7 +258,7 @@ impl Cover {
         if listeners.len() as u64 <= room {
             return false;
         }
-        starting::exceeds(listeners, self.kept.as_slice(), ending, room)
+        change::exceeds(listeners, self.kept.as_slice(), ending, room)
     }
 
     /// Whether the end of these listeners would need a tag above the last one, so that

@@ -11,36 +11,23 @@
 //! ```
 #![tactic(auto)]
 
-mod adding;
-mod beginning;
-mod behind;
 mod by_path;
-mod choice;
+mod change;
 mod cover;
-mod delta;
-mod ending;
-mod entering;
 mod error;
 mod examples;
-mod kept;
 mod laws;
-mod leaving;
 mod listen;
-mod listener;
 mod listeners;
 mod listens;
 mod numbers;
-mod placing;
-mod plan;
-mod shown;
-mod starting;
-mod widest;
+mod successors;
+mod supply;
 
-pub use choice::Choice;
+pub use change::{Choice, Delta, Revoked};
 pub use cover::Cover;
-pub use delta::{Delta, Revoked};
 pub use error::CoverError;
 pub use examples::{change_examples, range_examples};
-pub use kept::{Kept, KeptList};
 pub use laws::{apart_law, kept_law, needed_law, run_law, supply_law};
+pub use listen::{Kept, KeptList};
 pub use numbers::Numbers;

@@ -1,30 +1,112 @@
 // The registered listeners, by number and by form.
-ghost use Rattle.std.specs.Prelude.{◌≡◌, ◌<◌, ◌+◌, ◌^◌, [], ◌&&◌, ◌==◌, true, false, ℕ, Bool};
-ghost use Rattle.std.specs.Prelude.{length, vec_len, vec_capacity, IfOk, OnOk, OnErr};
-ghost use Rattle.std.specs.List.{find, list_any, All, AllPairs};
+ghost use Rattle.std.specs.Prelude.{◌≡◌, IfOk, ◌<◌, ◌+◌, ◌^◌, [], ◌&&◌, ◌==◌, true, false, ℕ, Bool, length};
+ghost use Rattle.std.specs.Prelude.{vec_len, vec_capacity, OnOk, OnErr, ◌≤◌, ◌∷◌, ◌++◌, not, map};
+ghost use Rattle.std.specs.List.{find, list_any, All, AllPairs, filter};
 ghost use Rattle.std.specs.Option.{option_copied};
+ghost use Rattle.rt_query.specs.Supply.{form, does_supply};
 ghost use Rattle.rt_tree.specs.PathTree.{path_eq};
 ghost use Rattle.rt_tree.specs.Assignments.{is_at_or_above};
 ghost use Rattle.rt_query.specs.Queries.{Query as QueryValue, plain, is_filtered};
 ghost use Rattle.rt_query.specs.QueryEq.{query_eq};
-ghost use Rattle.rt_query.specs.Supply.{form};
-ghost use Rattle.rt_query.specs.Supply as Supply;
 ghost use Rattle.rt_forms.specs.Forms.{numbers, count};
 ghost use Rattle.rt_forms.specs.Order.{AreInOrder};
-ghost use Rattle.rt_cover.specs.State.{is_registered, with_listener, numbers_of};
+ghost use Rattle.rt_cover.specs.State.{is_registered, with_listener, numbers_of, shown_with};
 ghost use Rattle.rt_cover.specs.inside.Held.{IsHeld};
 ghost use Rattle.rt_cover.specs.inside.Endings.{by_number, left};
+ghost use Rattle.rt_cover.specs.inside.Places.{place, does_stand};
+ghost use Rattle.rt_cover.specs.Cover.{forms, first_listener};
+ghost use Rattle.rt_query.specs.Supply as Supply;
 
-use crate::adding::{has_number, insert_listener, listener_at};
 use crate::by_path::HasForm;
-use crate::ending::Ending;
-use crate::leaving::{retain_left, take_one};
-use crate::listener::Listener;
+use crate::change::{Ending, OfNumbers, retain_left, take_one};
+use crate::listen::{Kept, Listen};
+use crate::listens::Listens;
+use crate::supply::is_first;
 use rt_forms::{Filtered, Forms};
 use rt_query::Query;
 use rt_tree::Key;
 use std::alloc::{AllocError, Global};
 use std::marker::Model;
+use std::sync::Arc;
+
+// ---- registered listeners
+
+// A registered listener, with the form that is listened to for it, which copies share.
+pub(crate) struct Listener {
+    number: u64,
+    form: Arc<Query>,
+}
+
+impl Drop for Listener {
+    fn drop(self) {
+        let Listener { number: _, form: _ } = self;
+    }
+}
+
+impl Model for Listener {
+    ghost use Rattle.rt_cover.specs.Cover.{Registered};
+
+    ghost Value = { Registered };
+
+    ghost view = { λ a. (a.number, a.form.value) };
+}
+
+impl Listener {
+    // A listener with a form.
+    pub(crate) fn new(alloc: Global, number: u64, form: Query) -> Result<Listener, AllocError>
+        ensures { IfOk result (λ listener. listener ≡ (number, form)) }
+    {
+        let form = Arc::new(alloc, form)?;
+        Ok(Listener { number, form })
+    }
+
+    // Its number.
+    pub(crate) fn number(&self) -> u64
+        ensures { result ≡ self.now.0 }
+    {
+        self.number
+    }
+
+    // A listen of its form, which it shares.
+    pub(crate) fn listen(&self, tag: u64) -> Result<Listen, AllocError>
+        ensures { IfOk result (λ listen. listen ≡ record { tag = tag; form = self.now.1 }) }
+    {
+        let form = Arc::try_clone(&self.form)?;
+        Ok(Listen::of(tag, form))
+    }
+
+    // An equal listener, which shares the form.
+    pub(crate) fn copy(&self) -> Result<Listener, AllocError>
+        ensures { IfOk result (λ listener. listener ≡ self.now) }
+    {
+        let form = Arc::try_clone(&self.form)?;
+        Ok(Listener {
+            number: self.number,
+            form,
+        })
+    }
+}
+
+impl HasForm for Listener {
+    ghost form_of = { λ l. l.1 };
+
+    fn form(&self) -> &Query {
+        &self.form
+    }
+}
+
+// What is listened to for a query that is given away.
+pub(crate) fn into_form(query: Query) -> Result<Query, AllocError>
+    ensures { IfOk result (λ f. f ≡ form query) }
+{
+    if query.is_filtered() {
+        Ok(query)
+    } else {
+        query.listening_form()
+    }
+}
+
+// ---- the registered listeners, by number and by form
 
 // The listeners, by number. Their numbers stand in a tree of forms beside that, where they are looked for.
 pub(crate) struct Listeners {
@@ -233,4 +315,163 @@ impl Listeners {
             None => self.end_among(ending),
         }
     }
+}
+
+// ---- what a new listener does to the list
+
+// The first place at which no lesser number stands, by halving.
+pub(crate) fn place_of(listeners: &[Listener], number: u64) -> usize
+    requires { AllPairs (λ l m. l.0 < m.0) listeners.now }
+    ensures first { result ≡ place number listeners.now }
+    ensures within { result ≤ length listeners.now }
+{
+    listeners.partition_point(|other| other.number() < number)
+}
+
+// Whether a listener of that number stands at the place.
+pub(crate) fn stands_at(listeners: &[Listener], place: usize, number: u64) -> bool
+    ensures { result ≡ does_stand listeners.now place number }
+{
+    match listeners.get(place) {
+        Some(listener) => listener.number() == number,
+        None => false,
+    }
+}
+
+// Whether a listener of that number is registered, by halving.
+pub(crate) fn has_number(listeners: &[Listener], number: u64) -> bool
+    requires { AllPairs (λ l m. l.0 < m.0) listeners.now }
+    ensures { result ≡ is_registered listeners.now number }
+{
+    stands_at(listeners, place_of(listeners, number), number)
+}
+
+// The listener of that number, by halving.
+pub(crate) fn listener_at<'a>(listeners: &'a [Listener], number: u64) -> Option<&'a Listener>
+    requires { AllPairs (λ l m. l.0 < m.0) listeners.now }
+    ensures { option_copied result ≡ find (λ l. l.0 == number) listeners.now }
+{
+    let place = place_of(listeners, number);
+    if !stands_at(listeners, place, number) {
+        return None;
+    }
+    Some(&listeners[place])
+}
+
+// Registers a listener, in its place by number; there is room for it.
+pub(crate) fn insert_listener(listeners: &mut Vec<Listener>, listener: Listener)
+    requires rise { AllPairs (λ l m. l.0 < m.0) listeners.old.items }
+    requires free { is_registered listeners.old.items listener.0 ≡ false }
+    requires room { vec_len listeners.old < vec_capacity listeners.old }
+    ensures { listeners.new.items ≡ with_listener listeners.old.items listener.0 listener.1 }
+{
+    let place = place_of(listeners, listener.number());
+    let _in_reserved_room = listeners.insert(place, listener);
+}
+
+// What is told of a listen that starts alone.
+pub(crate) fn started_one(
+    alloc: Global,
+    tag: u64,
+    form: &Query,
+    listener: u64,
+) -> Result<Vec<Kept>, AllocError>
+    ensures { IfOk result (λ v. v.items
+        ≡ record { tag = tag; query = form.now; listener = listener } ∷ []) }
+{
+    let mut started = Vec::new(alloc);
+    let query = form.copy()?;
+    started.push(Kept {
+        tag,
+        query,
+        listener,
+    })?;
+    Ok(started)
+}
+
+// ---- a new listener with its listen
+
+// Registers a listener, and keeps its listen in place of those that it supplies: both or neither. The tags
+// of those.
+pub(crate) fn enter(
+    listeners: &mut Listeners,
+    kept: &mut Listens,
+    listener: Listener,
+    listen: Listen,
+) -> Result<Vec<u64>, AllocError>
+    requires rise { AllPairs (λ l m. l.0 < m.0) listeners.old }
+    requires forms { All (λ l. form l.1 ≡ l.1) listeners.old }
+    requires free { is_registered listeners.old listener.0 ≡ false }
+    requires own { form listener.1 ≡ listener.1 }
+    requires by_tag { AllPairs (λ j k. j.tag < k.tag) kept.old }
+    ensures items { OnOk result
+        (listeners.new ≡ with_listener listeners.old listener.0 listener.1) }
+    ensures kept { OnOk result (kept.new
+        ≡ filter (λ k. not (does_supply listen.form k.form)) kept.old ++ listen ∷ []) }
+    ensures stopped { IfOk result (λ tags. tags.items ≡ map (λ k. k.tag)
+        (filter (λ k. does_supply listen.form k.form) kept.old)) }
+    ensures same_items { OnErr result (listeners.new ≡ listeners.old) }
+    ensures same_kept { OnErr result (kept.new ≡ kept.old) }
+{
+    let number = listener.number();
+    listeners.insert(listener)?;
+    match kept.start(listen) {
+        Ok(stopped) => Ok(stopped),
+        Err(error) => {
+            listeners.retain_left(&OfNumbers { numbers: &[number] });
+            Err(error)
+        }
+    }
+}
+
+// ---- what is shown of the listens and of the forms
+
+// The least number of a listener with that form; 0 where there is none.
+fn first_listener(listeners: &Listeners, form: &Query) -> u64
+    requires { Supply.form form.now ≡ form.now }
+    ensures { result ≡ first_listener listeners.now form.now }
+{
+    match listeners.numbers(form).first() {
+        Some(first) => *first,
+        None => 0,
+    }
+}
+
+// The listens, each with the least-numbered listener of its form.
+pub(crate) fn shown(
+    alloc: Global,
+    listeners: &Listeners,
+    kept: &[Listen],
+) -> Result<Vec<Kept>, AllocError>
+    requires { All (λ k. form k.form ≡ k.form) kept.now }
+    ensures { IfOk result (λ v. v.items ≡ map (shown_with listeners.now) kept.now) }
+{
+    let mut items = Vec::with_capacity(alloc, kept.len())?;
+    for listen in kept {
+        let form = listen.form();
+        let query = form.copy()?;
+        let listener = first_listener(listeners, form);
+        items.push(Kept {
+            tag: listen.tag(),
+            query,
+            listener,
+        })?;
+    }
+    Ok(items)
+}
+
+// The registered forms, in order of their least-numbered listeners.
+pub(crate) fn forms(listeners: &Listeners) -> Result<Vec<Query>, AllocError>
+    requires rise { AllPairs (λ l m. l.0 < m.0) listeners.now }
+    requires own { All (λ l. form l.1 ≡ l.1) listeners.now }
+    ensures { IfOk result (λ v. v.items ≡ forms listeners.now) }
+{
+    let mut forms = Vec::new(listeners.alloc());
+    let by_number = listeners.as_slice();
+    for listener in by_number {
+        if is_first(listeners, listener) {
+            forms.push(listener.form().copy()?)?;
+        }
+    }
+    Ok(forms)
 }

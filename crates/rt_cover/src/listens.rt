@@ -11,12 +11,11 @@ ghost use Rattle.rt_query.specs.Queries.{is_filtered};
 ghost use Rattle.rt_query.specs.QueryEq.{query_eq};
 ghost use Rattle.rt_query.specs.Supply.{does_supply};
 ghost use Rattle.rt_cover.specs.Cover.{Tagged};
-ghost use Rattle.rt_cover.specs.inside.Index.{by_form, form_of, AreApart, SameCounts};
+ghost use Rattle.rt_cover.specs.inside.Index.{by_form, form_of, AreApart, ArePlainsAlone, SameCounts};
 ghost use Rattle.rt_cover.specs.inside.Least.{lesser, least_from, IsPlainOrLeast};
 
-use crate::by_path::{HasForm, at_path, place_of_form, supply, under};
+use crate::by_path::{HasForm, at_path, place, place_of_form, supply, under};
 use crate::listen::{Listen, copies, have_tag, place_of, tags_of};
-use crate::placing::place;
 use rt_query::{Query, query_cmp};
 use rt_tree::Key;
 use std::alloc::{AllocError, Global};
@@ -50,21 +49,25 @@ impl Model for Listens {
     ghost invariant = { λ a. IsIndex form_of a.by_tag.items a.by_path.items };
 }
 
-// The tag of the first plain one.
+// The tag of the first plain one, where all are ranges if the first is: no other one is looked at.
 fn plain_among(listens: &[Listen]) -> Option<u64>
+    requires { (d : Tagged) → is_filtered (slice_index_or listens.now 0 d).form ≡ true
+        → list_any (λ k. not (is_filtered k.form)) listens.now ≡ false }
     ensures { result ≡ option_map (λ k. k.tag) (find (λ k. not (is_filtered k.form)) listens.now) }
 {
-    for listen in listens {
-        if !listen.form().is_filtered() {
-            return Some(listen.tag());
-        }
+    let Some(first) = listens.first() else {
+        return None;
+    };
+    if first.form().is_filtered() {
+        return None;
     }
-    None
+    Some(first.tag())
 }
 
-// The tag of a plain one at the path.
+// The tag of a plain one at the path, which stands alone there.
 fn plain_at(by_path: &[Listen], path: &[Key]) -> Option<u64>
-    requires { IsSorted (by_form form_of) by_path.now }
+    requires order { IsSorted (by_form form_of) by_path.now }
+    requires alone { ArePlainsAlone form_of by_path.now }
     ensures some { IfSome result (λ tag. list_any (λ k. path_eq k.form.path path.now
         && (not (is_filtered k.form) && k.tag == tag)) by_path.now ≡ true) }
     ensures none { IfNone result (list_any (λ k. path_eq k.form.path path.now
@@ -75,7 +78,8 @@ fn plain_at(by_path: &[Listen], path: &[Key]) -> Option<u64>
 
 // The tag of a plain one at the path or above it.
 fn plain_above(by_path: &[Listen], path: &[Key]) -> Option<u64>
-    requires { IsSorted (by_form form_of) by_path.now }
+    requires order { IsSorted (by_form form_of) by_path.now }
+    requires alone { ArePlainsAlone form_of by_path.now }
     ensures some { IfSome result (λ tag. list_any (λ k. is_at_or_above k.form.path path.now
         && (not (is_filtered k.form) && k.tag == tag)) by_path.now ≡ true) }
     ensures none { IfNone result (list_any (λ k. (is_at_or_above k.form.path path.now
@@ -143,7 +147,8 @@ fn least_at(by_path: &[Listen], query: &Query) -> Option<u64>
 
 // The tag of one that supplies the query: of a plain one, or of all that do the least.
 fn supplier(by_path: &[Listen], query: &Query) -> Option<u64>
-    requires { IsSorted (by_form form_of) by_path.now }
+    requires order { IsSorted (by_form form_of) by_path.now }
+    requires alone { ArePlainsAlone form_of by_path.now }
     ensures some { IfSome result (λ tag.
         list_any (λ k. does_supply k.form query.now && k.tag == tag) by_path.now ≡ true) }
     ensures none { IfNone result
@@ -173,6 +178,7 @@ fn have_range(by_path: &[Listen], query: &Query) -> bool
 fn have_supplier(by_path: &[Listen], query: &Query) -> bool
     requires order { IsSorted (by_form form_of) by_path.now }
     requires apart { AreApart form_of by_path.now }
+    requires alone { ArePlainsAlone form_of by_path.now }
     ensures { result ≡ list_any (λ k. does_supply k.form query.now) by_path.now }
 {
     match plain_above(by_path, query.path().keys()) {
@@ -481,6 +487,7 @@ impl Listens {
     // The tag of one that supplies the query: of a plain one, or of all that do the least. Looks at those
     // of the paths at and above it.
     pub(crate) fn supplier(&self, query: &Query) -> Option<u64>
+        requires { ArePlainsAlone form_of self.now }
         ensures some { IfSome result (λ tag.
             list_any (λ k. does_supply k.form query.now && k.tag == tag) self.now ≡ true) }
         ensures none { IfNone result (list_any (λ k. does_supply k.form query.now) self.now ≡ false) }
@@ -492,7 +499,8 @@ impl Listens {
     // Whether one supplies the query. Of the paths at and above it looks for a plain one, and of the ranges
     // of its path, of which none takes in another, for one by halving.
     pub(crate) fn supply(&self, query: &Query) -> bool
-        requires { AreApart form_of self.now }
+        requires apart { AreApart form_of self.now }
+        requires alone { ArePlainsAlone form_of self.now }
         ensures { result ≡ list_any (λ k. does_supply k.form query.now) self.now }
     {
         have_supplier(&self.by_path, query)

@@ -3,5 +3,7 @@ mod Begun
 mod CrowdLaws
 mod LeavingLaws
 mod Parameters
+mod Renewing
+mod RosterLaws
 mod Sockets
 mod Texts

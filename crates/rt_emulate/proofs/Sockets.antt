@@ -1,6 +1,6 @@
 -- What is read of a socket, where its first read failed.
 use Rattle.std.proofs.Common.{◌≡◌, Bool, true, false, Err, inl, inr, refl, sym, subst}
-use Rattle.rt_emulate.specs.declared.broken.Broken.{Broken}
+use Rattle.rt_emulate.specs.declared.socket.Broken.{Broken}
 use Rattle.rt_emulate.specs.declared.socket.Socket.{Socket}
 use Rattle.rt_emulate.specs.inside.Sockets.{ReadsOn, ReadsOne, passes}
 

@@ -6,8 +6,8 @@ use Rattle.std.specs.Str.{bytes_eq}
 use Rattle.std.specs.declared.alloc.Global.{Global}
 use Rattle.httpdate.specs.Date.{date_text, unix_secs}
 use Rattle.httpdate.specs.declared.date.HttpDate.{HttpDate}
-use Rattle.rt_emulate.specs.declared.level.Level.{Level}
-use Rattle.rt_emulate.specs.declared.level.Kind.{Kind}
+use Rattle.rt_emulate.specs.declared.settings.Level.{Level}
+use Rattle.rt_emulate.specs.declared.settings.Kind.{Kind}
 use Rattle.rt_emulate.specs.declared.diary.TheConstants.{MOST_BYTES}
 use Rattle.rt_emulate.specs.Levels.{says, word_of}
 use Rattle.rt_input.specs.Plains.{plain}

@@ -1,10 +1,10 @@
 -- Which lines an emulator says of itself.
 use Rattle.std.specs.Prelude.{ℕ, List, Bool, true, false, if◌then◌else◌, Option, Some, None, codes}
 use Rattle.std.specs.Str.{bytes_eq}
-use Rattle.rt_emulate.specs.declared.level.Kind.{Kind}
-use Rattle.rt_emulate.specs.declared.level.Kind.TheVariants as kind
-use Rattle.rt_emulate.specs.declared.level.Level.{Level}
-use Rattle.rt_emulate.specs.declared.level.Level.TheVariants.{All, Connections, Faults, Nothing}
+use Rattle.rt_emulate.specs.declared.settings.Kind.{Kind}
+use Rattle.rt_emulate.specs.declared.settings.Kind.TheVariants as kind
+use Rattle.rt_emulate.specs.declared.settings.Level.{Level}
+use Rattle.rt_emulate.specs.declared.settings.Level.TheVariants.{All, Connections, Faults, Nothing}
 
 -- the level of a word
 abbrev pub level_of : List ℕ → Option Level

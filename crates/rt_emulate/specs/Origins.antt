@@ -6,9 +6,9 @@ use Rattle.std.specs.List.{list_any}
 use Rattle.std.specs.Option.{option_map_or}
 use Rattle.std.specs.Str.{bytes_eq}
 use Rattle.rt_socket.specs.Origins.{behind, is_port}
-use Rattle.rt_emulate.specs.declared.allowing.OriginFault.{OriginFault}
-use Rattle.rt_emulate.specs.declared.allowing.OriginFault.TheVariants.{UpperCase, NoScheme, NoHost, Behind}
-use Rattle.rt_emulate.specs.declared.allowing.OriginFault.TheVariants.{BadLetter, BadPort}
+use Rattle.rt_emulate.specs.declared.origins.OriginFault.{OriginFault}
+use Rattle.rt_emulate.specs.declared.origins.OriginFault.TheVariants.{UpperCase, NoScheme, NoHost, Behind}
+use Rattle.rt_emulate.specs.declared.origins.OriginFault.TheVariants.{BadLetter, BadPort}
 
 -- what a scheme is written with behind its first letter: small letters, digits, and + - .
 abbrev pub is_of_scheme : ℕ → Bool

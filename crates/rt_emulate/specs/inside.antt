@@ -10,6 +10,7 @@ pub mod Places
 pub mod Replays
 pub mod Requests
 pub mod Rests
+pub mod Rosters
 pub mod Silences
 pub mod Sites
 pub mod Sockets

@@ -1,18 +1,24 @@
 // What an emulator says of itself, until it is written.
 ghost use Rattle.std.specs.Prelude.{◌≡◌, [], None, false, IfOk, OnOk, OnErr};
+ghost use Rattle.std.specs.Result.{result_ok};
 ghost use Rattle.rt_emulate.specs.Diaries.{Adds, IsBegun, IsStamp, Says, SaysMade, has_room, is_empty};
 ghost use Rattle.rt_emulate.specs.Diaries.{line_of, secs_at, without_line};
 ghost use Rattle.rt_emulate.specs.Levels.{says};
-ghost use Rattle.std.specs.Result.{result_ok};
-ghost use Rattle.rt_emulate.specs.declared.level.Kind.TheVariants as kinds;
+ghost use Rattle.rt_emulate.specs.declared.settings.Kind.TheVariants as kinds;
 
-use crate::level::{Kind, Level};
+use crate::ending::Ending;
+use crate::settings::{Kind, Level};
 use crate::stamp::{Stamp, stamp};
 use rt_input::{LOG_PREFIX, Log, push_plain};
+use rt_wire::WireError;
 use std::alloc::{AllocError, AllocGlobal, Global};
+use std::fmt::Display;
+use std::io;
 use std::marker::Model;
+use std::net::SocketAddr;
 use std::rt::Clock;
 use std::time::{SystemTime, UNIX_EPOCH};
+use tungstenite::Error;
 
 /// How many bytes of lines may wait to be written.
 pub(crate) const MOST_BYTES: usize = 4_194_304;
@@ -227,5 +233,125 @@ impl Log for Diary {
         ensures said { Says kinds.Message line.now self.old self.new }
     {
         self.say(Kind::Message, line);
+    }
+}
+
+// ---- what is told of guests
+
+pub(crate) fn listening(alloc: Global, log: &mut Diary, address: SocketAddr) {
+    if log.says(Kind::Connection) {
+        log.say_made(
+            Kind::Connection,
+            format!(in alloc; "listening on {address}"),
+        );
+    }
+    if log.says(Kind::Fault) && !address.ip().to_canonical().is_loopback() {
+        let host = address.ip();
+        let line = format!(in alloc;
+            "whoever reaches {host} can read and write the tree: there is no login, and no TLS"
+        );
+        log.say_made(Kind::Fault, line);
+    }
+}
+
+// Says what a connection does, and behind that why, from where or what, if such lines are said.
+fn say_of<D: Display>(
+    alloc: Global,
+    log: &mut Diary,
+    kind: Kind,
+    connection: u64,
+    what: &str,
+    of: &D,
+) {
+    if log.says(kind) {
+        log.say_made(
+            kind,
+            format!(in alloc; "connection {connection} {what}{of}"),
+        );
+    }
+}
+
+pub(crate) fn begun(alloc: Global, log: &mut Diary, connection: u64, from: SocketAddr) {
+    let kind = Kind::Connection;
+    say_of(alloc, log, kind, connection, "begins, from ", &from);
+}
+
+// Why a stream is no WebSocket.
+fn strange<D: Display>(alloc: Global, log: &mut Diary, from: SocketAddr, why: &D) {
+    log.say_made(
+        Kind::Connection,
+        format!(in alloc; "a stream from {from} is no WebSocket: {why}"),
+    );
+}
+
+// Why a handshake failed, of which memory is no cause that is told.
+pub(crate) fn no_socket(alloc: Global, log: &mut Diary, from: SocketAddr, why: &Error) {
+    if !log.says(Kind::Connection) {
+        return;
+    }
+    match why {
+        Error::OutOfMemory => {}
+        Error::Refused(answer) => {
+            let why = answer.body().as_ref();
+            let why = why.map_or("its origin is refused", String::as_str);
+            strange(alloc, log, from, &why);
+        }
+        why => strange(alloc, log, from, why),
+    }
+}
+
+// Why one goes that hasn't shaken hands, unless it was told when its handshake failed.
+pub(crate) fn unshaken(alloc: Global, log: &mut Diary, from: SocketAddr, why: Ending) {
+    if log.says(Kind::Connection) && !why.is_told() {
+        strange(alloc, log, from, &why);
+    }
+}
+
+pub(crate) fn ended(alloc: Global, log: &mut Diary, connection: u64, why: Ending) {
+    say_of(alloc, log, Kind::Connection, connection, "ends: ", &why);
+}
+
+pub(crate) fn binary_passed_over(alloc: Global, log: &mut Diary, connection: u64) {
+    if log.says(Kind::Message) {
+        let why = WireError::NotJson;
+        let (code, name) = (why.code(), why.name());
+        let line = format!(in alloc;
+            "connection {connection}: a binary message is passed over: {code} {name}"
+        );
+        log.say_made(Kind::Message, line);
+    }
+}
+
+pub(crate) fn not_sent(alloc: Global, log: &mut Diary, connection: u64) {
+    let kind = Kind::Connection;
+    say_of(
+        alloc,
+        log,
+        kind,
+        connection,
+        "can't be sent to any more",
+        &"",
+    );
+}
+
+pub(crate) fn refused(alloc: Global, log: &mut Diary, connection: u64, texts: Vec<String>) {
+    for text in texts.as_slice() {
+        say_of(alloc, log, Kind::Message, connection, "is sent ", text);
+    }
+}
+
+pub(crate) fn not_accepted(alloc: Global, log: &mut Diary, why: &io::Error) {
+    if log.says(Kind::Fault) {
+        log.say_made(
+            Kind::Fault,
+            format!(in alloc; "no connection can be accepted for now: {why}"),
+        );
+    }
+}
+
+// What is to be said of the tree's file.
+pub(crate) fn of_file(log: &mut Diary, line: Result<String, AllocError>) {
+    if log.says(Kind::Fault) {
+        log.say_made(Kind::Fault, line);
     }
 }

@@ -3,27 +3,22 @@ ghost use Rattle.std.specs.Prelude.{◌≡◌};
 ghost use Rattle.rt_emulate.specs.inside.Alarms.{patience};
 ghost use Rattle.rt_emulate.specs.inside.Guests.{IsPatience};
 
-use crate::alarm::sooner;
-use crate::diary::Diary;
-use crate::edge::{Edge, LISTENER, Stopper, WAKER};
-use crate::emulating::Emulating;
+use crate::diary::{self, Diary};
+use crate::edge::{Edge, Keys, LISTENER, Stopper, WAKER};
 use crate::fault::EmulateFault;
+use crate::guest::sooner;
 use crate::guests::Guests;
-use crate::halt::Halt;
 use crate::keeper::{Keeper, say};
-use crate::keys::Keys;
-use crate::level::Kind;
 use crate::pen::Pen;
+use crate::settings::{Emulating, Halt, Kind};
 use crate::site::Site;
-use crate::telling;
 use mio::net::TcpStream;
 use rt_hub::{Bounds, Hub};
 use rt_journal::{Journal, tree_in};
 use rt_tree::Tree;
 use std::alloc::{AllocGlobal, Global};
 use std::fs::File;
-use std::io;
-use std::io::ErrorKind;
+use std::io::{self, ErrorKind};
 use std::net::{Net, SocketAddr};
 use std::random::RandomSource;
 use std::rt::{Clock, Files};
@@ -172,7 +167,7 @@ impl Emulator {
         let site = site_of(system, alloc, &mut emulating)?;
         sow(system, &mut emulating)?;
         let journal = journal_of(system, &mut emulating, log)?;
-        telling::listening(alloc, log, address);
+        diary::listening(alloc, log, address);
         Ok(Emulator {
             alloc,
             edge,
@@ -251,7 +246,7 @@ impl Emulator {
             return true;
         }
         if self.retry_at.is_none() {
-            telling::not_accepted(self.alloc, log, &why);
+            diary::not_accepted(self.alloc, log, &why);
         }
         self.retry_at = Some(self.now.saturating_add(RETRY_MS));
         true
@@ -271,7 +266,7 @@ impl Emulator {
         {
             Ok(()) => self.guests.add(stream, from, self.now),
             Err(why) => {
-                telling::not_accepted(self.alloc, log, &why);
+                diary::not_accepted(self.alloc, log, &why);
                 Ok(())
             }
         }
@@ -331,6 +326,7 @@ impl Emulator {
     {
         let stops = self.take()?;
         self.turn(system, log)?;
+        self.guests.renew_roster()?;
         self.guests.keep(rt, system, self.now, log)?;
         let is_done = match self.count {
             Some(count) => self.guests.gone >= u64::from(count),

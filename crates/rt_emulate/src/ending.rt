@@ -1,14 +1,24 @@
 // Why a guest goes.
-ghost use Rattle.std.specs.Prelude.{◌≡◌, false};
-ghost use Rattle.std.specs.Option.{option_map_or};
+ghost use Rattle.std.specs.Prelude.{◌≡◌, false, ◌++◌, ◌∷◌, [], IfOk, OnOk};
+ghost use Rattle.std.specs.Option.{option_map_or, option_map};
 ghost use Rattle.rt_hub.specs.Hubs.{has_too_many_in, line_in};
 ghost use Rattle.rt_emulate.specs.inside.Endings.{close_code, close_reason, is_told, stream_ending, too_much};
+ghost use Rattle.rt_emulate.specs.inside.Guests.{is_none_of};
+ghost use Rattle.rt_emulate.specs.inside.Leaving.{LeavesOn, notes_turn};
 
-use crate::broken::Broken;
-use crate::silence::{HANDSHAKE_MS, SILENCE_MS};
-use rt_hub::{Hub, MAX_LISTENS, MAX_WAITING_BYTES, MAX_WAITING_IN_ALL, MAX_WAITING_MESSAGES};
+use crate::guest::{HANDSHAKE_MS, SILENCE_MS};
+use crate::keeper::Keeper;
+use crate::settings::Halt;
+use crate::socket::Broken;
+use rt_hub::{
+    Hub, MAX_LISTENS, MAX_WAITING_BYTES, MAX_WAITING_IN_ALL, MAX_WAITING_MESSAGES, TURN_ACTIONS,
+    leave,
+};
 use rt_socket::or_unknown;
+use std::alloc::{AllocError, Global};
+use std::collections::VecDeque;
 use std::fmt;
+use std::marker::Model;
 
 /// Why a guest goes.
 #[derive(Clone, Copy)]
@@ -120,34 +130,124 @@ fn write_broken<W: fmt::Write>(f: &mut fmt::Formatter<W>, why: Broken) -> fmt::R
 
 impl fmt::Display for Ending {
     fn fmt<W: fmt::Write>(&self, f: &mut fmt::Formatter<W>) -> fmt::Result {
-        match self {
-            Ending::Closed(None) => f.write_str("the client closed it"),
+        let words = match self {
+            Ending::Closed(None) => "the client closed it",
             Ending::Closed(Some(code)) => {
-                write!(f, "the client closed it with {code}{}", or_unknown(*code))
+                return write!(f, "the client closed it with {code}{}", or_unknown(*code));
             }
-            Ending::Failed(why) => write_broken(f, *why),
-            Ending::Refused => f.write_str("its handshake failed"),
-            Ending::Over => write!(
-                f,
-                "it is too slow: more than {MAX_WAITING_MESSAGES} messages or {MAX_WAITING_BYTES} \
-                 bytes wait for it"
-            ),
-            Ending::Crowding => write!(
-                f,
-                "it is the slowest, and more than {MAX_WAITING_IN_ALL} bytes wait for all"
-            ),
-            Ending::TooManyListens => write!(
-                f,
-                "it has more than {MAX_LISTENS} listens; it is closed with 1008"
-            ),
-            Ending::Silent => write!(
-                f,
-                "nothing is heard of it, for {SILENCE_MS} ms after a ping"
-            ),
-            Ending::Unshaken => write!(f, "no handshake in {HANDSHAKE_MS} ms"),
-            Ending::Answered => f.write_str("it was answered"),
-            Ending::Stalled => f.write_str("its request or its answer stands still"),
-            Ending::Stopped => f.write_str("the server stops; it is closed with 1001"),
+            Ending::Failed(why) => return write_broken(f, *why),
+            Ending::Refused => "its handshake failed",
+            Ending::Over => {
+                return write!(
+                    f,
+                    "it is too slow: more than {MAX_WAITING_MESSAGES} messages or {MAX_WAITING_BYTES} \
+                     bytes wait for it"
+                );
+            }
+            Ending::Crowding => {
+                return write!(
+                    f,
+                    "it is the slowest, and more than {MAX_WAITING_IN_ALL} bytes wait for all"
+                );
+            }
+            Ending::TooManyListens => {
+                return write!(
+                    f,
+                    "it has more than {MAX_LISTENS} listens; it is closed with 1008"
+                );
+            }
+            Ending::Silent => {
+                return write!(
+                    f,
+                    "nothing is heard of it, for {SILENCE_MS} ms after a ping"
+                );
+            }
+            Ending::Unshaken => return write!(f, "no handshake in {HANDSHAKE_MS} ms"),
+            Ending::Answered => "it was answered",
+            Ending::Stalled => "its request or its answer stands still",
+            Ending::Stopped => "the server stops; it is closed with 1001",
+        };
+        f.write_str(words)
+    }
+}
+
+// ---- the ends of connections, in turns
+
+/// Connections that end, the one whose turn is next first.
+pub(crate) struct Leaving {
+    all: VecDeque<u64>,
+}
+
+impl Drop for Leaving {
+    fn drop(self) {
+        let Leaving { all: _ } = self;
+    }
+}
+
+impl Model for Leaving {
+    ghost use Rattle.std.specs.Prelude.{List, ℕ};
+
+    ghost Value = { List ℕ };
+
+    ghost view = { λ l. l.all.items };
+}
+
+// A turn of a connection's end is noted: its last one as its end.
+fn note_turn(keeper: &mut Keeper, connection: u64, is_last: bool) -> Result<(), Halt>
+    ensures { OnOk result
+        (keeper.new.journal ≡ option_map (notes_turn connection is_last) keeper.old.journal) }
+{
+    if is_last {
+        keeper.note_end(connection)
+    } else {
+        keeper.note_turn(connection, TURN_ACTIONS)
+    }
+}
+
+impl Leaving {
+    /// Nobody goes. Takes no memory.
+    pub(crate) fn new(alloc: Global) -> Leaving
+        ensures { result ≡ [] }
+    {
+        Leaving {
+            all: VecDeque::new(alloc),
         }
+    }
+
+    /// Whether nobody goes.
+    pub(crate) fn is_empty(&self) -> bool
+        ensures { result ≡ is_none_of self.now }
+    {
+        self.all.is_empty()
+    }
+
+    /// The connection goes, behind the others.
+    pub(crate) fn add(&mut self, connection: u64) -> Result<(), AllocError>
+        ensures { OnOk result (self.new ≡ self.old ++ connection ∷ []) }
+    {
+        Ok(self.all.push_back(connection)?)
+    }
+
+    /// The first one has a turn of its end, and stands behind the others then, but where it was the last
+    /// turn. Answers whether a connection has gone. To whom something is sent is noted.
+    #[tactic(auto, using(crate::proofs::LeavingLaws::leaves, crate::proofs::LeavingLaws::nobody))]
+    pub(crate) fn turn(
+        &mut self,
+        hub: &mut Hub,
+        keeper: &mut Keeper,
+        told: &mut Vec<u64>,
+    ) -> Result<bool, Halt>
+        ensures { IfOk result (λ gone. LeavesOn self.old hub.old keeper.old.journal gone
+            self.new hub.new keeper.new.journal) }
+    {
+        let Some(connection) = self.all.pop_front() else {
+            return Ok(false);
+        };
+        let is_last = leave(hub, connection, told)?;
+        note_turn(keeper, connection, is_last)?;
+        if !is_last {
+            self.add(connection)?;
+        }
+        Ok(is_last)
     }
 }

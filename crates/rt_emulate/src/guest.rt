@@ -1,30 +1,35 @@
 // One that has come: a stream that asks, shakes hands or is a connection.
-ghost use Rattle.std.specs.Prelude.{◌≡◌, IfOk, OnOk, Some, None, false, if◌then◌else◌, is_some};
+ghost use Rattle.std.specs.Prelude.{◌≡◌, IfOk, OnOk, Some, None, false, if◌then◌else◌, is_some, ◌∷◌, []};
+ghost use Rattle.std.specs.Prelude.{IfSome};
 ghost use Rattle.std.specs.Option.{option_copied_mut, option_map};
+ghost use Rattle.std.specs.List.Sorted.{IsPermutation};
 ghost use Rattle.rt_hub.specs.Hubs.{IsMade};
 ghost use Rattle.rt_peer.specs.Runs.{Connect};
 ghost use Rattle.rt_emulate.specs.inside.Crowds.{Counts};
-ghost use Rattle.rt_emulate.specs.inside.Guests.{HandsAs, HearsAs, asking_of, number_of, rung, silence_after, talk_of};
-ghost use Rattle.rt_emulate.specs.inside.Guests.{blocked_by, is_more, unblocked};
+ghost use Rattle.rt_emulate.specs.inside.Guests.{HandsAs, HearsAs, asking_of, number_of, rung, silence_after};
+ghost use Rattle.rt_emulate.specs.inside.Guests.{talk_of, blocked_by, is_more, talks_as, unblocked};
+ghost use Rattle.rt_emulate.specs.inside.Rosters.{Looks, Tells, is_owed, is_told_now};
+ghost use Rattle.rt_emulate.specs.inside.Silences.{due_of};
+ghost use Rattle.rt_emulate.specs.inside.Alarms.{HasRung, WaitsBeyond, alarm, next_time, sooner};
 
-use crate::asking::Asking;
-use crate::broken::Broken;
-use crate::diary::Diary;
+use crate::calls::{OnWay, Replay};
+use crate::diary::{self, Diary};
 use crate::ending::Ending;
-use crate::halt::Halt;
-use crate::on_way::OnWay;
-use crate::origin::Judge;
-use crate::replay::Replay;
-use crate::silence::{Due, SILENCE_MS, Silence};
-use crate::socket::{Socket, TURN_BYTES, limits};
-use crate::telling;
+use crate::origins::Judge;
+use crate::requests::Asking;
+use crate::settings::Halt;
+use crate::socket::{Broken, Socket, TURN_BYTES, limits};
+use crate::visit::Visit;
 use mio::net::TcpStream;
-use rt_hub::{Handed, Hub, Notes, Turn, hand_over, take_turn};
+use rt_hub::{Door, Handed, Hub, Notes, Turn, hand_over, take_turn};
 use rt_input::Counted;
 use std::alloc::{AllocError, Global};
+use std::cmp::Reverse;
+use std::collections::BinaryHeap;
+use std::marker::Model;
 use std::net::SocketAddr;
-use tungstenite::handshake::server::ServerHandshake;
-use tungstenite::handshake::{MidHandshake, server};
+use tungstenite::handshake::MidHandshake;
+use tungstenite::handshake::server::{self, ServerHandshake};
 use tungstenite::{Error, HandshakeError};
 
 /// What became of a guest's turn.
@@ -36,6 +41,17 @@ pub(crate) enum Turned {
     More,
     /// It goes.
     Ends(Ending),
+}
+
+/// What became of a guest that may be owed the text that says who is connected.
+#[derive(Clone, Copy)]
+pub(crate) enum Told {
+    /// It is owed none, or takes none now.
+    Nothing,
+    /// It is on its way.
+    Text,
+    /// Its stream takes nothing any more.
+    Failed,
 }
 
 /// A handshake that has begun.
@@ -86,6 +102,8 @@ pub(crate) struct Talk {
     pub(crate) socket: Socket,
     /// Whether its stream takes nothing for now.
     pub(crate) is_blocked: bool,
+    /// Which text it was told last that says who is connected; none where it doesn't ask.
+    pub(crate) told: Option<u64>,
 }
 
 impl Drop for Talk {
@@ -94,6 +112,7 @@ impl Drop for Talk {
             connection: _,
             socket: _,
             is_blocked: _,
+            told: _,
         } = self;
     }
 }
@@ -119,7 +138,7 @@ impl Talk {
             })),
             Turn::More => {
                 if self.socket.was_binary {
-                    telling::binary_passed_over(alloc, log, self.connection);
+                    diary::binary_passed_over(alloc, log, self.connection);
                 }
                 Ok(None)
             }
@@ -145,8 +164,8 @@ impl Talk {
         }
     }
 
-    // What its socket has not sent is on its way.
-    fn count_unsent(&self, on_way: &mut OnWay) -> Result<(), AllocError>
+    /// What its socket has not sent is on its way.
+    pub(crate) fn count_unsent(&self, on_way: &mut OnWay) -> Result<(), AllocError>
         ensures { OnOk result (Counts self.now.connection self.now.socket.unsent on_way.old on_way.new) }
     {
         on_way.set(self.connection, self.socket.unsent)
@@ -169,7 +188,7 @@ impl Talk {
             return Err(Halt::NoMemory);
         };
         self.count_unsent(on_way)?;
-        telling::refused(alloc, log, self.connection, self.socket.take_refusals());
+        diary::refused(alloc, log, self.connection, self.socket.take_refusals());
         Ok(self.settle(alloc, handed, log))
     }
 
@@ -189,10 +208,43 @@ impl Talk {
             Handed::More => true,
             Handed::Failed => {
                 if self.socket.pass_over_writes() {
-                    telling::not_sent(alloc, log, self.connection);
+                    diary::not_sent(alloc, log, self.connection);
                 }
                 false
             }
+        }
+    }
+
+    // Whether it asks who is connected, and was told another text.
+    fn is_owed(&self, version: u64) -> bool
+        ensures { result ≡ is_owed version self.now }
+    {
+        match self.told {
+            Some(last) => last != version,
+            None => false,
+        }
+    }
+
+    // Whether it is owed the text of that number now: its stream has taken all that came before.
+    fn is_told_now(&self, version: u64) -> bool
+        ensures { result ≡ is_told_now version self.now }
+    {
+        self.is_owed(version) && !self.is_blocked && self.socket.unsent == 0
+    }
+
+    /// Sends the text that says who is connected, which has that number, where it is owed that and its stream has
+    /// taken all that came before: so one that is slow is told the newest alone.
+    pub(crate) fn tell(&mut self, text: &str, version: u64) -> Result<Told, AllocError>
+        ensures { IfOk result (λ said. Tells text.now version self.old said self.new) }
+    {
+        if !self.is_told_now(version) {
+            return Ok(Told::Nothing);
+        }
+        self.told = Some(version);
+        if self.socket.put(text)? {
+            Ok(Told::Text)
+        } else {
+            Ok(Told::Failed)
         }
     }
 
@@ -212,6 +264,8 @@ pub(crate) struct Guest {
     pub(crate) stage: Stage,
     /// Where it comes from.
     pub(crate) from: SocketAddr,
+    /// What the head of its handshake says of it.
+    pub(crate) visit: Visit,
     /// How many came before it.
     pub(crate) serial: u64,
     pub(crate) silence: Silence,
@@ -226,6 +280,7 @@ impl Drop for Guest {
         let Guest {
             stage: _,
             from: _,
+            visit: _,
             serial: _,
             silence: _,
             is_ready: _,
@@ -246,6 +301,7 @@ impl Guest {
         Guest {
             stage: Stage::Asking(Asking::new(alloc, stream, now)),
             from,
+            visit: Visit::none(),
             serial,
             silence: Silence::broken(now),
             is_ready: false,
@@ -270,6 +326,16 @@ impl Guest {
         match &mut self.stage {
             Stage::Asking(asking) => Some(asking),
             Stage::Shaking(_) | Stage::Open(_) | Stage::Gone => None,
+        }
+    }
+
+    /// Whether it is that connection.
+    pub(crate) fn is_connection(&self, connection: u64) -> bool
+        ensures { result ≡ talks_as connection (talk_of self.now.stage) }
+    {
+        match &self.stage {
+            Stage::Open(talk) => talk.connection == connection,
+            Stage::Asking(_) | Stage::Shaking(_) | Stage::Gone => false,
         }
     }
 
@@ -305,8 +371,22 @@ impl Guest {
         }
     }
 
-    /// One that asks shakes hands from now on: the head of its handshake has so many bytes.
+    // Keeps what the head of its handshake says of it, where it asks.
+    fn look(&mut self) -> Result<(), AllocError>
+        ensures { OnOk result (Looks (asking_of self.old.stage) self.old self.new) }
+    {
+        let visit = match &self.stage {
+            Stage::Asking(asking) => asking.visit()?,
+            Stage::Shaking(_) | Stage::Open(_) | Stage::Gone => return Ok(()),
+        };
+        self.visit = visit;
+        Ok(())
+    }
+
+    /// One that asks shakes hands from now on: the head of its handshake has so many bytes. What that says of it is
+    /// kept.
     pub(crate) fn upgrade(&mut self, alloc: Global, size: usize, judge: Judge) -> Result<(), Halt> {
+        self.look()?;
         let stage = std::mem::replace(&mut self.stage, Stage::Gone);
         let Some(asking) = stage.into_asking() else {
             return Ok(());
@@ -339,6 +419,7 @@ impl Guest {
                     connection: 0,
                     socket: Socket::new(alloc, socket, is_telling),
                     is_blocked: false,
+                    told: if self.visit.asks { Some(0) } else { None },
                 });
                 Ok(Turned::More)
             }
@@ -364,7 +445,7 @@ impl Guest {
         if let Stage::Open(talk) = &mut self.stage {
             talk.connection = connection;
         }
-        telling::begun(alloc, log, connection, self.from);
+        diary::begun(alloc, log, connection, self.from);
         Ok(connection)
     }
 
@@ -402,10 +483,150 @@ impl Guest {
 
 // A handshake with one from there has failed, which is told.
 fn unshaken(alloc: Global, from: SocketAddr, why: Error, log: &mut Diary) -> Result<Turned, Halt> {
-    telling::no_socket(alloc, log, from, &why);
+    diary::no_socket(alloc, log, from, &why);
     if Broken::of(why).lacks_memory() {
         Err(Halt::NoMemory)
     } else {
         Ok(Turned::Ends(Ending::Refused))
+    }
+}
+
+// ---- how long a guest may be silent
+
+/// For how many milliseconds a guest may shake hands.
+pub const HANDSHAKE_MS: u64 = 10_000;
+
+/// After how many milliseconds of silence a guest is sent a ping, and after how many more it is ended.
+pub const SILENCE_MS: u64 = 30_000;
+
+/// When a guest was heard last, and when it was sent a ping since, in milliseconds from the start.
+#[derive(Clone, Copy)]
+pub(crate) struct Silence {
+    pub(crate) heard_at: u64,
+    pub(crate) pinged_at: Option<u64>,
+}
+
+/// What is due of a silent guest.
+#[derive(Clone, Copy)]
+pub(crate) enum Due {
+    /// It is ended.
+    End,
+    /// It is sent a ping.
+    Ping,
+    /// Nothing for so many milliseconds, of which there is one at least.
+    Later(u64),
+}
+
+impl Silence {
+    /// It is heard now.
+    pub(crate) fn broken(now: u64) -> Silence
+        ensures { result ≡ record { heard_at = now; pinged_at = None } }
+    {
+        Silence {
+            heard_at: now,
+            pinged_at: None,
+        }
+    }
+
+    /// It is sent a ping now.
+    pub(crate) fn pinged(self, now: u64) -> Silence
+        ensures { result ≡ record self { pinged_at = Some now } }
+    {
+        Silence {
+            heard_at: self.heard_at,
+            pinged_at: Some(now),
+        }
+    }
+
+    /// What is due now.
+    pub(crate) fn due(self, now: u64) -> Due
+        ensures { result ≡ due_of self now }
+    {
+        let (since, due) = match self.pinged_at {
+            Some(pinged_at) => (pinged_at, Due::End),
+            None => (self.heard_at, Due::Ping),
+        };
+        let silent = now.saturating_sub(since);
+        if silent >= SILENCE_MS {
+            due
+        } else {
+            Due::Later(SILENCE_MS - silent)
+        }
+    }
+}
+
+// ---- when guests are looked at
+
+/// When a guest is looked at, the guest's serial number, and its place.
+pub(crate) type Alarm = Reverse<(u64, u64, usize)>;
+
+/// When guests are looked at, the next one first.
+pub(crate) struct Alarms {
+    all: BinaryHeap<Alarm>,
+}
+
+impl Drop for Alarms {
+    fn drop(self) {
+        let Alarms { all: _ } = self;
+    }
+}
+
+impl Model for Alarms {
+    ghost use Rattle.std.specs.Prelude.{List};
+    ghost use Rattle.std.specs.BinaryHeap.{IsHeap, heap_items};
+    ghost use Rattle.rt_emulate.specs.inside.Alarms.{Alarm, in_order};
+
+    ghost Value = { List Alarm };
+
+    ghost view = { λ a. heap_items a.all };
+
+    ghost invariant = { λ a. IsHeap in_order (heap_items a.all) };
+}
+
+impl Alarms {
+    /// Nobody is looked at. Takes no memory.
+    pub(crate) fn new(alloc: Global) -> Alarms
+        ensures { result ≡ [] }
+    {
+        Alarms {
+            all: BinaryHeap::new(alloc),
+        }
+    }
+
+    /// The guest at that place, which has that serial number, is looked at then.
+    pub(crate) fn set(&mut self, at: u64, serial: u64, place: usize) -> Result<(), AllocError>
+        ensures { OnOk result (IsPermutation (alarm at serial place ∷ self.old) self.new) }
+    {
+        Ok(self.all.push(Reverse((at, serial, place)))?)
+    }
+
+    /// When the next guest is looked at.
+    pub(crate) fn next(&self) -> Option<u64>
+        ensures { result ≡ next_time self.now }
+    {
+        match self.all.peek() {
+            Some(Reverse((at, _, _))) => Some(*at),
+            None => None,
+        }
+    }
+
+    /// The next alarm, if it rings by now. It is taken out.
+    pub(crate) fn ring(&mut self, now: u64) -> Option<Alarm>
+        ensures rung { IfSome result (λ a. HasRung now a self.old self.new) }
+        ensures none { result ≡ None → (self.new ≡ self.old) × WaitsBeyond now (next_time self.old) }
+    {
+        let at = self.next()?;
+        if at <= now { self.all.pop() } else { None }
+    }
+}
+
+/// The sooner of two times, where there are some.
+pub(crate) fn sooner(a: Option<u64>, b: Option<u64>) -> Option<u64>
+    ensures { result ≡ sooner a b }
+{
+    match (a, b) {
+        (Some(a), Some(b)) => Some(if a <= b { a } else { b }),
+        (Some(at), None) | (None, Some(at)) => Some(at),
+        (None, None) => None,
     }
 }

@@ -1,25 +1,27 @@
 // Those that have come, over one hub.
-ghost use Rattle.std.specs.Prelude.{◌≡◌, [], IfOk, OnOk};
+ghost use Rattle.std.specs.Prelude.{◌≡◌, [], None, Ok, IfOk, OnOk};
 ghost use Rattle.std.specs.Option.{option_map_or};
+ghost use Rattle.rt_emulate.specs.Clients.{clients_text};
 ghost use Rattle.rt_emulate.specs.declared.ending.Ending.TheVariants.{Stopped};
 ghost use Rattle.rt_emulate.specs.inside.Guests.{HandsAt, NotesEach, asking_at, talk_at};
 ghost use Rattle.rt_emulate.specs.inside.Requests.{stopped_of};
+ghost use Rattle.rt_emulate.specs.inside.Rosters.{RenewsIf, clients_of, is_due};
 
-use crate::asking::Next;
-use crate::diary::Diary;
-use crate::ending::{Ending, too_much};
+use crate::calls::OnWay;
+use crate::diary::{self, Diary};
+use crate::edge::Keys;
+use crate::ending::{Ending, Leaving, too_much};
 use crate::fault::EmulateFault;
-use crate::guest::{Guest, Turned};
-use crate::halt::Halt;
+use crate::guest::{Guest, Told, Turned};
 use crate::keeper::Keeper;
-use crate::keys::Keys;
-use crate::leaving::Leaving;
-use crate::on_way::OnWay;
-use crate::origin::Judge;
+use crate::origins::Judge;
 use crate::place::set_place;
 use crate::present::Present;
+use crate::requests::Next;
+use crate::roster::{Roster, clients_text};
+use crate::settings::Halt;
 use crate::site::Site;
-use crate::telling;
+use crate::socket::Broken;
 use mio::net::TcpStream;
 use rt_hub::{Hub, Notes};
 use std::alloc::Global;
@@ -47,6 +49,7 @@ pub(crate) struct Guests {
     allowed: Vec<String>,
     is_telling: bool,
     pub(crate) present: Present,
+    roster: Roster,
     pub(crate) leaving: Leaving,
     // What turns leave to be done.
     notes: Notes,
@@ -71,6 +74,7 @@ impl Drop for Guests {
             allowed: _,
             is_telling: _,
             present: _,
+            roster: _,
             leaving: _,
             notes: _,
             sent: _,
@@ -102,6 +106,7 @@ impl Guests {
             allowed,
             is_telling,
             present: Present::new(alloc),
+            roster: Roster::new(alloc),
             leaving: Leaving::new(alloc),
             notes: Notes::new(alloc),
             sent: 0,
@@ -192,8 +197,10 @@ impl Guests {
         };
         match guest.shake(self.alloc, self.is_telling, log)? {
             Turned::More => {
+                let asks = guest.visit.asks;
                 let connection = guest.connect(self.alloc, &mut self.hub, log)?;
                 set_place(&mut self.present.places, connection, place)?;
+                self.roster.begin(connection, asks)?;
                 Ok(Turned::More)
             }
             turned => Ok(turned),
@@ -271,9 +278,7 @@ impl Guests {
         )?;
         let is_long = asking.is_long();
         self.note_told()?;
-        if self.sent >= MOST_SENT || self.on_way.is_crowded(&self.hub) {
-            self.hand_over_all(log)?;
-        }
+        self.hand_over_many(log)?;
         Ok(if is_long { Some(Turned::More) } else { None })
     }
 
@@ -315,6 +320,7 @@ impl Guests {
         connection: u64,
         log: &mut Diary,
     ) -> Result<Option<Turned>, Halt> {
+        self.roster.hear(!self.notes.accepted.is_empty());
         self.keeper
             .note(connection, self.notes.accepted.as_slice())?;
         self.notes.accepted.clear();
@@ -325,9 +331,7 @@ impl Guests {
         if let Some(why) = self.hand_over_to(place, log)? {
             return Ok(Some(Turned::Ends(why)));
         }
-        if self.sent >= MOST_SENT || self.on_way.is_crowded(&self.hub) {
-            self.hand_over_all(log)?;
-        }
+        self.hand_over_many(log)?;
         Ok(None)
     }
 
@@ -340,6 +344,15 @@ impl Guests {
         };
         self.notes.answers.clear();
         answered
+    }
+
+    // Hands over to all that are noted before the next message is taken, where much was sent or more waits for all
+    // than may.
+    fn hand_over_many(&mut self, log: &mut Diary) -> Result<(), Halt> {
+        if self.sent >= MOST_SENT || self.on_way.is_crowded(&self.hub) {
+            return self.hand_over_all(log);
+        }
+        Ok(())
     }
 
     // Hands over to all that are noted. Where more waits for all then than may, the slowest go.
@@ -361,11 +374,61 @@ impl Guests {
             if let Some(guest) = self.present.all.get_mut(*place) {
                 guest.is_noted = false;
             }
-            if let Some(why) = self.hand_over_to(*place, log)? {
+            if let Some(why) = self.serve(*place, log)? {
                 self.remove(*place, why, log)?;
             }
         }
         Ok(())
+    }
+
+    // Hands over to the guest at that place what waits for it, and tells it who is connected, where it is owed that.
+    // Answers why it goes, if it does.
+    fn serve(&mut self, place: usize, log: &mut Diary) -> Result<Option<Ending>, Halt> {
+        match self.hand_over_to(place, log)? {
+            Some(why) => Ok(Some(why)),
+            None => self.tell(place),
+        }
+    }
+
+    // Tells the guest at that place who is connected, where it is owed that: what it is told goes out next. It goes
+    // where memory lacks for it, and nobody else does. Answers why, if it does.
+    fn tell(&mut self, place: usize) -> Result<Option<Ending>, Halt>
+        ensures hub { self.new.hub ≡ self.old.hub }
+        ensures kept { self.new.roster ≡ self.old.roster }
+        ensures untold { talk_at self.old.present place ≡ None → result ≡ Ok None }
+    {
+        let Some(talk) = self.present.talk(place) else {
+            return Ok(None);
+        };
+        match talk.tell(self.roster.text.as_str(), self.roster.version) {
+            Ok(Told::Nothing) => Ok(None),
+            Ok(Told::Text | Told::Failed) => {
+                talk.count_unsent(&mut self.on_way)?;
+                self.present.note(place)?;
+                Ok(None)
+            }
+            Err(_) => Ok(Some(Ending::Failed(Broken::NoMemory))),
+        }
+    }
+
+    /// Where somebody asks who is connected and that may have changed, the text that says it is made anew, and those
+    /// that ask are told it next. Where memory lacks for it that is done behind a later round.
+    #[tactic(auto, using(crate::proofs::Renewing::renews, crate::proofs::Renewing::stays))]
+    pub(crate) fn renew_roster(&mut self) -> Result<(), Halt>
+        ensures { OnOk result (RenewsIf (is_due self.old.roster)
+            (clients_text (clients_of self.old.hub self.old.present))
+            self.old.roster self.old.present self.new.roster self.new.present) }
+    {
+        if !self.roster.is_due() {
+            return Ok(());
+        }
+        match clients_text(self.alloc, &self.hub, &self.present) {
+            Ok(text) => {
+                self.roster.renew(text);
+                self.present.note_each(self.roster.askers.as_slice())
+            }
+            Err(_) => Ok(()),
+        }
     }
 
     // Hands over to the guest at that place what waits for it. Answers why it goes, if it does.
@@ -417,7 +480,7 @@ impl Guests {
         match guest.end(why) {
             Some(connection) => self.leave(connection, why, log),
             None => {
-                telling::unshaken(self.alloc, log, from, why);
+                diary::unshaken(self.alloc, log, from, why);
                 Ok(())
             }
         }
@@ -425,7 +488,8 @@ impl Guests {
 
     // The connection ends, in turns.
     fn leave(&mut self, connection: u64, why: Ending, log: &mut Diary) -> Result<(), Halt> {
-        telling::ended(self.alloc, log, connection, why);
+        diary::ended(self.alloc, log, connection, why);
+        self.roster.end(connection);
         self.on_way.set(connection, 0)?;
         Ok(self.leaving.add(connection)?)
     }

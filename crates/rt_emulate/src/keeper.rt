@@ -3,14 +3,13 @@ ghost use Rattle.std.specs.Prelude.{◌≡◌, None, Some, OnOk};
 ghost use Rattle.std.specs.Option.{option_and_then, option_map};
 ghost use Rattle.rt_journal.specs.Due.{next_at};
 ghost use Rattle.rt_journal.specs.Journals.{appended};
-ghost use Rattle.rt_emulate.specs.declared.halt.Halt.TheVariants.{Unkept};
+ghost use Rattle.rt_emulate.specs.declared.settings.Halt.TheVariants.{Unkept};
 ghost use Rattle.rt_emulate.specs.inside.Keeping.{fault_by, note_all, note_end, note_text, note_turn};
 ghost use Rattle.rt_emulate.specs.inside.Keeping.{noted_of};
 
-use crate::diary::Diary;
+use crate::diary::{self, Diary};
 use crate::fault::EmulateFault;
-use crate::halt::Halt;
-use crate::telling;
+use crate::settings::Halt;
 use rt_hub::{Accepted, When};
 use rt_journal::{Journal, JournalFault, Noted, Notice};
 use rt_tree::Tree;
@@ -58,7 +57,7 @@ fn note_each(journal: &mut Journal, connection: u64, all: &[Accepted]) -> Result
 /// Says what is to be said of the tree's file.
 pub(crate) fn say(journal: &Journal, notice: Option<Notice>, log: &mut Diary) {
     if let Some(notice) = notice {
-        telling::of_file(log, journal.line(notice));
+        diary::of_file(log, journal.line(notice));
     }
 }
 

@@ -11,52 +11,40 @@
 //! ```
 //!
 //! What a message does, and how texts are taken and handed over, is decided by `rt_hub`. This
-//! crate is the edge: streams, handshakes, turns, what is due of a silent client, the tree's file, and the files that
-//! are served beside the tree.
+//! crate is the edge: streams, handshakes, turns, what is due of a silent client, the tree's file, the files that
+//! are served beside the tree, and who is connected, for those that ask.
 #![tactic(auto)]
 
-mod alarm;
-mod allowing;
-mod asked;
-mod asking;
-mod broken;
+mod calls;
 mod diary;
+mod draft;
 mod edge;
-mod emulating;
 mod emulator;
 mod ending;
 mod examples;
 mod fault;
 mod guest;
 mod guests;
-mod halt;
 mod keeper;
-mod keys;
-mod leaving;
-mod level;
-mod on_way;
-mod origin;
-mod pace;
+mod origins;
 mod page;
 mod pen;
 mod place;
 mod present;
-mod protocol;
-mod replay;
-mod rest;
-mod silence;
+mod requests;
+mod roster;
+mod settings;
 mod site;
 mod socket;
 mod stamp;
-mod telling;
+mod visit;
 
-pub use allowing::{OriginFault, origin_fault};
 pub use diary::Diary;
 pub use edge::Stopper;
-pub use emulating::Emulating;
 pub use emulator::Emulator;
 pub use examples::{origin_examples, protocol_examples};
 pub use fault::EmulateFault;
-pub use level::Level;
+pub use guest::{HANDSHAKE_MS, SILENCE_MS};
+pub use origins::{OriginFault, origin_fault};
 pub use pen::Pen;
-pub use silence::{HANDSHAKE_MS, SILENCE_MS};
+pub use settings::{Emulating, Level};

@@ -1,17 +1,16 @@
 // Those that are there, each at a place of its own, and who is next.
 ghost use Rattle.std.specs.Prelude.{◌≡◌, ◌≢◌, ◌∷◌, ◌++◌, [], ℕ, None, OnOk};
-ghost use Rattle.std.specs.Option.{option_copied_mut, option_map};
+ghost use Rattle.std.specs.Option.{option_copied, option_copied_mut, option_map};
 ghost use Rattle.slab.specs.Slab.{get};
 ghost use Rattle.rt_emulate.specs.inside.Guests.{asking_at, guest_of, is_idle, marked, noted_after, readied, ready_after};
 ghost use Rattle.rt_emulate.specs.inside.Guests.{NotesAt, NotesEach, talk_at};
 ghost use Rattle.rt_emulate.specs.inside.Places.{place_of};
+ghost use Rattle.rt_emulate.specs.inside.Rosters.{client_in};
 
-use crate::alarm::Alarms;
-use crate::asking::Asking;
-use crate::guest::{Guest, Talk};
-use crate::halt::Halt;
+use crate::guest::{Alarms, Guest, HANDSHAKE_MS, Talk};
 use crate::place::{Places, place_of};
-use crate::silence::HANDSHAKE_MS;
+use crate::requests::Asking;
+use crate::settings::Halt;
 use slab::Slab;
 use std::alloc::Global;
 
@@ -72,6 +71,16 @@ impl Present {
         let place = place_of(&self.places, connection)?;
         match self.talk(place) {
             Some(talk) if talk.connection == connection => Some(place),
+            Some(_) | None => None,
+        }
+    }
+
+    /// The guest at that place, if it is that connection.
+    pub(crate) fn client(&self, place: Option<usize>, connection: u64) -> Option<&Guest>
+        ensures { option_copied result ≡ client_in self.now place connection }
+    {
+        match self.all.get(place?) {
+            Some(guest) if guest.is_connection(connection) => Some(guest),
             Some(_) | None => None,
         }
     }

@@ -1,18 +1,19 @@
 // The files that are served beside the tree.
-ghost use Rattle.std.specs.Prelude.{◌≡◌, true, map, is_some, option_map, string_bytes, IfOk};
+ghost use Rattle.std.specs.Prelude.{◌≡◌, ◌++◌, ◌∷◌, [], ◌==◌, true, map, is_some, if◌then◌else◌};
+ghost use Rattle.std.specs.Prelude.{option_map, string_bytes, IfOk, OnOk};
 ghost use Rattle.rt_files.specs.Places.{is_below};
-ghost use Rattle.rt_emulate.specs.inside.Sites.{course_of, does_read, folders_of, has_folders, is_absent, refused};
-ghost use Rattle.rt_emulate.specs.inside.Sites.{size_of, sought, without_slash};
+ghost use Rattle.rt_emulate.specs.inside.Sites.{course_of, does_read, folders_of, has_folders, is_absent};
+ghost use Rattle.rt_emulate.specs.inside.Sites.{refused, size_of, sought, without_slash};
+ghost use Rattle.rt_emulate.specs.inside.Rests.{IsPiece, left_for, piece_of};
 
-use crate::asked::Reply;
+use crate::calls::Reply;
 use crate::fault::EmulateFault;
 use rt_files::{file_named, is_below, place_of};
 use rt_http::{Fault, MAX_FILE_BYTES, Method, named_path};
 use std::alloc::{AllocError, Global};
-use std::fs::{File, Metadata};
-use std::io::ErrorKind;
+use std::fs::{self, File, Metadata};
+use std::io::{self, ErrorKind, Read};
 use std::rt::Files;
-use std::{fs, io};
 
 // The page of the tree, in its own folder.
 const TREE: &str = "examples/tree/index.html";
@@ -232,6 +233,26 @@ impl Folder {
     }
 }
 
+// The folder of that name comes behind the others, if there is one.
+fn add<Y: Files>(
+    system: &Y,
+    alloc: Global,
+    folders: &mut Vec<Folder>,
+    name: Option<String>,
+    is_page: bool,
+) -> Result<(), EmulateFault>
+    ensures { OnOk result (map (λ folder. folder.is_page) folders.new.items
+        ≡ map (λ folder. folder.is_page) folders.old.items ++ (if is_some name then is_page ∷ [] else [])) }
+{
+    match name {
+        Some(name) => {
+            let folder = Folder::of(system, alloc, name, is_page)?;
+            Ok(folders.push(folder)?)
+        }
+        None => Ok(()),
+    }
+}
+
 /// The folders whose files are served, in the order in which they are looked through.
 pub(crate) struct Site {
     folders: Vec<Folder>,
@@ -259,12 +280,8 @@ impl Site {
             ≡ folders_of (is_some public) (is_some page)) }
     {
         let mut folders = Vec::new(alloc);
-        if let Some(public) = public {
-            folders.push(Folder::of(system, alloc, public, false)?)?;
-        }
-        if let Some(page) = page {
-            folders.push(Folder::of(system, alloc, page, true)?)?;
-        }
+        add(system, alloc, &mut folders, public, false)?;
+        add(system, alloc, &mut folders, page, true)?;
         Ok(Site { folders })
     }
 
@@ -312,5 +329,66 @@ impl Site {
             Some(path) => self.find_at(system, alloc, path.as_str()),
             None => Err(Fault::NotFound),
         }
+    }
+}
+
+// ---- what is left of a file that is sent
+
+// How many bytes of a file are read at once.
+const PIECE_BYTES: usize = 65_536;
+
+/// What is left of a file that is sent: it is read piece by piece, each once the one before is written.
+pub(crate) struct Rest {
+    file: File,
+    // How many bytes of it are still to be read.
+    left: usize,
+}
+
+impl Drop for Rest {
+    fn drop(self) {
+        let Rest { file: _, left: _ } = self;
+    }
+}
+
+// How many bytes are read next, where so many are left.
+fn piece(left: usize) -> usize
+    ensures { result ≡ piece_of left }
+{
+    left.min(PIECE_BYTES)
+}
+
+impl Rest {
+    /// What is sent of a file of so many bytes: nothing of an empty one, and none where its head alone
+    /// is asked for.
+    pub(crate) fn of(file: File, size: usize, is_bare: bool) -> Option<Rest>
+        ensures { option_map (λ r. r.left) result ≡ left_for is_bare size }
+    {
+        if is_bare || size == 0 {
+            None
+        } else {
+            Some(Rest { file, left: size })
+        }
+    }
+
+    /// Reads the next piece, puts it behind the bytes, and answers how many bytes it has: none where the
+    /// file has grown shorter than it was.
+    #[tactic(auto, using(crate::proofs::Begun::begun_append))]
+    pub(crate) fn put_piece(&mut self, out: &mut Vec<u8>) -> io::Result<usize>
+        ensures { IfOk result (λ count.
+            IsPiece self.old.left out.old.items count self.new.left out.new.items) }
+    {
+        let mut bytes = [0; PIECE_BYTES];
+        let most = piece(self.left);
+        let count = self.file.read(&mut bytes[..most])?;
+        out.extend_from_slice(&bytes[..count])?;
+        self.left = self.left.saturating_sub(count);
+        Ok(count)
+    }
+
+    /// Whether all of it was read.
+    pub(crate) fn is_over(&self) -> bool
+        ensures { result ≡ (self.now.left == 0) }
+    {
+        self.left == 0
     }
 }

@@ -1,10 +1,10 @@
 -- Calls and messages that are read from texts. Where memory lacks to read one, it counts as not read.
 use Rattle.std.proofs.Common.{◌≡◌, ◌⊎◌, ℕ, Option, Some, None, Result, Ok, Err, inl, inr, sym, subst}
 use Rattle.std.specs.Prelude.{IfOk, IfErr, MatchOption}
-use Rattle.rt_world.specs.declared.call.Call.{Call}
+use Rattle.rt_world.specs.declared.step.Call.{Call}
 use Rattle.rt_lines.specs.declared.error.LineError.{LineError}
 use Rattle.rt_lines.specs.declared.error.LineError.TheVariants.{NoMemory}
-use Rattle.rt_foreign.specs.declared.event.Event.{Event}
+use Rattle.rt_foreign.specs.declared.client.Event.{Event}
 use Rattle.rt_foreign.specs.declared.held.Held.{Held}
 use Rattle.rt_foreign.specs.Asking.{Asks, AsksFor}
 use Rattle.rt_foreign.specs.Clients.{Client}

@@ -7,7 +7,7 @@ ghost use Rattle.rt_ffi.specs.Held.{CallsClient, client_in};
 ghost use Rattle.rt_foreign.specs.Looks.{GivesKey, GivesWhy, Shows};
 ghost use Rattle.rt_foreign.specs.Status as status;
 ghost use Rattle.rt_foreign.specs.Texts.{IsTurnedAway};
-ghost use Rattle.rt_foreign.specs.declared.event.Event.TheVariants as event;
+ghost use Rattle.rt_foreign.specs.declared.client.Event.TheVariants as event;
 
 use rt_foreign::{CLOSED, Client, DONE, Event, Handle, Held, NO_MEMORY, message_of, status_of};
 use rt_lines::LineError;

@@ -1,6 +1,6 @@
 // The calls of a client's seats.
 ghost use Rattle.std.specs.Prelude.{◌≡◌, ℕ, Some, Ok};
-ghost use Rattle.rt_world.specs.declared.call.Call.TheVariants as call;
+ghost use Rattle.rt_world.specs.declared.step.Call.TheVariants as call;
 ghost use Rattle.rt_foreign.specs.Asking.{Asks, AsksFor, Settles, Tells, WantsOf};
 ghost use Rattle.rt_ffi.specs.Held.{CallsClient};
 ghost use Rattle.rt_foreign.specs.Reading.{at_end_read, at_end_words, cancel_read, listen_read, order_read};

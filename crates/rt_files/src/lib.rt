@@ -9,12 +9,6 @@
 //! ```
 #![tactic(auto)]
 
-mod kind;
-mod laws;
 mod name;
-mod place;
 
-pub use kind::media_type;
-pub use laws::{examples, names_stay};
-pub use name::{INDEX, file_named};
-pub use place::{is_below, place_of};
+pub use name::{INDEX, examples, file_named, is_below, media_type, names_stay, place_of};

@@ -2,8 +2,13 @@
 ghost use Rattle.std.specs.Prelude.{◌≡◌, IfOk, option_map, string_bytes};
 ghost use Rattle.std.specs.Option.{option_copied};
 ghost use Rattle.rt_files.specs.Names.{are_names, behind_slash, ends_as_folder, file_of, is_name, whole};
+ghost use Rattle.rt_files.specs.Places.{is_below, place_of};
+ghost use Rattle.rt_files.specs.Kinds.{media_of, media_type_of};
+ghost use Rattle.rt_files.specs.laws.Names.{NamesStay};
+ghost use Rattle.rt_files.specs.laws.Examples.{FilesNamed, PlacesBelow, TypesKnown};
 
 use std::alloc::{AllocError, Global};
+use std::path::Path;
 
 /// The file that the path of a folder names.
 pub const INDEX: &str = "index.html";
@@ -75,3 +80,83 @@ pub fn file_named(alloc: Global, path: &str) -> Result<Option<String>, AllocErro
         Ok(None)
     }
 }
+
+// ---- where a file stands
+
+/// The place of a file below a folder, whose own place ends with no slash.
+///
+/// # Errors
+///
+/// Want of memory.
+pub fn place_of(alloc: Global, folder: &str, name: &str) -> Result<String, AllocError>
+    ensures { IfOk result (λ place. string_bytes place ≡ place_of folder.now name.now) }
+{
+    let mut place = String::from_str(alloc, folder)?;
+    place.push_str("/")?;
+    place.push_str(name)?;
+    Ok(place)
+}
+
+/// Whether a place is one below a folder, whose own place ends with no slash. Both are without links: so a
+/// file to which a link leads out of the folder is not below it.
+pub fn is_below(folder: &str, place: &str) -> bool
+    ensures { result ≡ is_below folder.now place.now }
+{
+    match place.as_bytes().strip_prefix(folder.as_bytes()) {
+        Some(rest) => rest.starts_with(b"/"),
+        None => false,
+    }
+}
+
+// ---- of which media type a file is
+
+// The media type of bytes of which nothing is known.
+const BYTES: &str = "application/octet-stream";
+
+// The media type of a file whose name has that behind its last dot.
+fn media_of(ending: &str) -> &'static str
+    ensures { result.now ≡ media_of ending.now }
+{
+    match ending {
+        "html" => "text/html; charset=utf-8",
+        "css" => "text/css; charset=utf-8",
+        "js" | "mjs" => "text/javascript; charset=utf-8",
+        "json" | "map" => "application/json",
+        "webmanifest" => "application/manifest+json",
+        "wasm" => "application/wasm",
+        "txt" | "md" => "text/plain; charset=utf-8",
+        "svg" => "image/svg+xml",
+        "png" => "image/png",
+        "jpg" | "jpeg" => "image/jpeg",
+        "gif" => "image/gif",
+        "webp" => "image/webp",
+        "ico" => "image/x-icon",
+        "woff2" => "font/woff2",
+        _ => BYTES,
+    }
+}
+
+/// The media type of a file, by the end of its name: `text/html; charset=utf-8` of `index.html`, and
+/// `application/octet-stream` where the end is none that is known.
+pub fn media_type(name: &str) -> &'static str
+    ensures { result.now ≡ media_type_of name.now }
+{
+    match Path::new(name).extension() {
+        Some(ending) => media_of(ending),
+        None => BYTES,
+    }
+}
+
+// ---- what holds of all paths
+
+/// A file that a path names is below its folder: none of the names between its slashes leads up.
+pub fn names_stay()
+    ensures { NamesStay }
+{}
+
+/// Paths, places and names that the prover computes.
+pub fn examples()
+    ensures files { FilesNamed }
+    ensures places { PlacesBelow }
+    ensures types { TypesKnown }
+{}

@@ -3,7 +3,7 @@ use Rattle.std.proofs.Common.{◌≡◌, ◌⊎◌, ◌<◌, ◌≤◌, ℕ, Lis
 use Rattle.std.proofs.Common.{Option, Some, None, refl, sym, ap, subst, inl, inr}
 use Rattle.std.specs.Prelude.{◌==◌, if◌then◌else◌, is_some}
 use Rattle.serde_json.specs.Written.{compact_text}
-use Rattle.rt_cover.specs.declared.kept.Kept.{Kept}
+use Rattle.rt_cover.specs.declared.listen.Kept.{Kept}
 use Rattle.rt_push.specs.declared.error.PushError.{PushError}
 use Rattle.rt_push.specs.Digits.{number}
 use Rattle.rt_push.specs.PushIds.{push_fault, push_id, used}
@@ -16,7 +16,7 @@ use Rattle.rt_client.specs.Calls.{Comes, HasFailed, Locked, RefusesOn}
 use Rattle.rt_client.specs.Settling.{RefusesCover, ShowsCover, TakesMessage}
 use Rattle.rt_lines.specs.declared.error.Refusal.TheVariants.{Push}
 use Rattle.rt_lines.specs.Printing.{cover_text}
-use Rattle.rt_foreign.specs.declared.event.Event.{Event}
+use Rattle.rt_foreign.specs.declared.client.Event.{Event}
 use Rattle.rt_foreign.specs.declared.place.Place.{Place}
 use Rattle.rt_foreign.specs.Clients.{Client, unrefused}
 use Rattle.rt_foreign.specs.Connection.{GivesTaken, IsHeard, IsUnheard, LooksOut, Sends}

@@ -29,7 +29,7 @@ use Rattle.std.proofs.ResultValues.{and_tt}
 use Rattle.rt_foreign.specs.Boxes.{maybe_box_owns}
 use Rattle.rt_foreign.specs.declared.held.Held.{Held}
 use Rattle.rt_foreign.specs.contracts.held.Held as held
-use Rattle.rt_foreign.specs.contracts.parts.Parts as parts
+use Rattle.rt_foreign.specs.contracts.parts.BoxParts as parts
 use Rattle.rt_foreign.specs.contracts.handle.Loose as loose
 
 abbrev pub both : Val → Val → Val
@@ -41,8 +41,8 @@ R = held.the_row
 abbrev pub Z : RattleType
 Z = heap.the_row
 
-abbrev pub Parts : RattleType
-Parts = parts.the_row R Z ghosts
+abbrev pub BoxParts : RattleType
+BoxParts = parts.the_row R Z ghosts
 
 abbrev pub Loose : RattleType
 Loose = loose.the_row
@@ -62,9 +62,9 @@ some_of None e = absurd (subst T (sym e) tt)
 some_of (Some x) e = (x, refl)
 
 module _ {M : Type 1} {𝓤 : Ura M} {𝓛 : Logic 𝓤} {K : Type 0} {Γ : List (Item 𝓤)} {G : Goal 𝓤 𝓛.H} where
-  pub parts_out : K → (d : Parts.Denot) (vs : List Val)
+  pub parts_out : K → (d : BoxParts.Denot) (vs : List Val)
       → ((b o : ℕ) (h : Val) → d.ptr ≡ block_ptr b o → vs ≡ both (vptr b o) h ∷ [] → Good (layout Z) h → Seq K 𝓛 (‵ (box_owns (ghosts.dealloc_token d.alloc) R (block_ptr b o) d.value) ∷ ‵ (Z.own_val d.alloc (h ∷ [])) ∷ Γ) G)
-      → Seq K 𝓛 (‵ (Parts.own_val d vs) ∷ Γ) G
+      → Seq K 𝓛 (‵ (BoxParts.own_val d vs) ∷ Γ) G
   parts_out t d vs k =
       fsplit t $ fpick t (λ vss. fsplit t $ feq_l t (λ ev. fsplit t $ feq_l t (λ ep. fsplit t $ handle_tells al t d.alloc vss.1.0 (λ h ea fits. move t (1 ∷ []) $ drop t $ move t (1 ∷ []) $
       in_a_block t d.ptr (λ p. box_owns (ghosts.dealloc_token d.alloc) R p d.value) (fst∗ 𝓤 (never 𝓤) (sem 𝓛 (ghosts.dealloc_token d.alloc (bare (lone R.mir)) null_ptr))) (λ b o e. k b o h e
@@ -72,7 +72,7 @@ module _ {M : Type 1} {𝓤 : Ura M} {𝓛 : Logic 𝓤} {K : Type 0} {Γ : List
       (subst (λ (ws : List Val). vs ≡ vstruct (of_list (ptr_val d.ptr ∷ (ws ++ []))) ∷ []) ea (subst (λ (ps : List Val). vs ≡ vstruct (of_list (ps ++ (vss.1.0 ++ []))) ∷ []) ep ev))) fits)))))
 
   pub parts_in : K → (b o : ℕ) (h : Val) (a : Global) (x : Held)
-      → Step K 𝓛 (‵ (Parts.own_val (record { ptr = block_ptr b o; alloc = a; value = x }) (both (vptr b o) h ∷ [])) ∷ Γ) G (‵ (box_owns (ghosts.dealloc_token a) R (block_ptr b o) x) ∷ ‵ (Z.own_val a (h ∷ [])) ∷ Γ) G
+      → Step K 𝓛 (‵ (BoxParts.own_val (record { ptr = block_ptr b o; alloc = a; value = x }) (both (vptr b o) h ∷ [])) ∷ Γ) G (‵ (box_owns (ghosts.dealloc_token a) R (block_ptr b o) x) ∷ ‵ (Z.own_val a (h ∷ [])) ∷ Γ) G
   parts_in t b o h a x = step (λ s. let v : Val = both (vptr b o) h in
       nothing t $ move t (2 ∷ 0 ∷ []) $ fjoin t $ feq_i t (List Val) (vptr b o ∷ []) (vptr b o ∷ []) refl $ fjoin t $ feq_i t (List Val) (v ∷ []) (v ∷ []) refl $ fjoin t $
       fpack t (Valss (RawPtr ∷ Z ∷ [])) (within (shape (parts.the_type R Z ghosts)) (block_ptr b o, (a, tt)) (v ∷ [])) (vptr b o ∷ [], (h ∷ [], tt)) $ fjoin t $ s)

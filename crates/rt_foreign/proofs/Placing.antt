@@ -6,8 +6,8 @@ use Rattle.std.specs.List.{slice_get}
 use Rattle.std.proofs.lemmas.Bool.Decides.{nat_tests}
 use Rattle.std.proofs.lemmas.Option.{slice_get_past, slice_get_read}
 use Rattle.rt_view.specs.declared.kinds.Kinds.{Kinds}
-use Rattle.rt_world.specs.declared.call.Call.{Call}
-use Rattle.rt_client.specs.declared.done.Done.{Done}
+use Rattle.rt_world.specs.declared.step.Call.{Call}
+use Rattle.rt_client.specs.declared.shared.Done.{Done}
 use Rattle.rt_client.specs.declared.error.ClientError.{ClientError}
 use Rattle.rt_client.specs.declared.error.ClientError.TheVariants as client
 use Rattle.rt_client.specs.Calls.{Locked, Seated, MakesCall, RefusesCall}

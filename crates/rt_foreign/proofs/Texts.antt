@@ -16,7 +16,7 @@ use Rattle.rt_lines.specs.declared.error.LineError.{LineError}
 use Rattle.rt_lines.specs.declared.error.LineError.TheVariants.{Bad, NoMemory, Refused}
 use Rattle.rt_lines.specs.declared.error.Refusal.TheVariants.{Tree}
 use Rattle.rt_lines.specs.Reading.{and_then, path_in, unless}
-use Rattle.rt_world.specs.declared.call.Call.{Call}
+use Rattle.rt_world.specs.declared.step.Call.{Call}
 use Rattle.rt_query.specs.Queries.{Query}
 use Rattle.rt_foreign.specs.Reading.{asked_read, filtered_read, in_order, json_read, limited_words, listen_words}
 use Rattle.rt_foreign.specs.Reading.{order_alone, order_read, ordered_read, path_read, query_in}

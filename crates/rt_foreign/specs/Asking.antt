@@ -1,8 +1,8 @@
 -- What calls of a seat make of a client.
 use Rattle.std.specs.Prelude.{◌≡◌, ◌≢◌, ◌⊎◌, ℕ, List, Option, Some, None, Result, Ok, Err, unwrap_or}
 use Rattle.rt_view.specs.declared.kinds.Kinds.{Kinds}
-use Rattle.rt_world.specs.declared.call.Call.{Call}
-use Rattle.rt_client.specs.declared.done.Done.{Done}
+use Rattle.rt_world.specs.declared.step.Call.{Call}
+use Rattle.rt_client.specs.declared.shared.Done.{Done}
 use Rattle.rt_client.specs.declared.error.ClientError.{ClientError}
 use Rattle.rt_client.specs.declared.error.ClientError.TheVariants as client
 use Rattle.rt_client.specs.Calls.{Locked, Seated, MakesCall, RefusesCall}

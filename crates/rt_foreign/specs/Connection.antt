@@ -9,7 +9,7 @@ use Rattle.rt_client.specs.Calls.{Comes, HasFailed, Locked, RefusesOn}
 use Rattle.rt_client.specs.Settling.{TakesMessage}
 use Rattle.rt_lines.specs.declared.error.LineError.{LineError}
 use Rattle.rt_lines.specs.declared.error.LineError.TheVariants.{NoMemory}
-use Rattle.rt_foreign.specs.declared.event.Event.{Event}
+use Rattle.rt_foreign.specs.declared.client.Event.{Event}
 use Rattle.rt_foreign.specs.Clients.{Client, unrefused}
 use Rattle.rt_foreign.specs.Events.{is_end, step_of_event}
 use Rattle.rt_foreign.specs.Places.{GivesNothing}

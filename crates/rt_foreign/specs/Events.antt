@@ -9,8 +9,8 @@ use Rattle.rt_lines.specs.declared.error.LineError.{LineError}
 use Rattle.rt_lines.specs.declared.error.LineError.TheVariants.{Refused}
 use Rattle.rt_lines.specs.declared.error.Refusal.TheVariants.{Wire}
 use Rattle.rt_lines.specs.Reading.{and_then}
-use Rattle.rt_foreign.specs.declared.event.Event.{Event}
-use Rattle.rt_foreign.specs.declared.event.Event.TheVariants.{Connected, Disconnected, Message}
+use Rattle.rt_foreign.specs.declared.client.Event.{Event}
+use Rattle.rt_foreign.specs.declared.client.Event.TheVariants.{Connected, Disconnected, Message}
 use Rattle.rt_foreign.specs.Reading.{text_read}
 
 -- the step that it is

@@ -1,7 +1,7 @@
 -- What a seat is told, as JSON: members stand in the order of the bytes of their names.
 use Rattle.std.specs.Prelude.{ℕ, List, [], ◌∷◌, ◌++◌, codes, decimal, flat_map, Option, Some, None}
 use Rattle.rt_tree.specs.PathTree.{Key, PathTree}
-use Rattle.rt_view.specs.declared.batch.Batch.{Batch}
+use Rattle.rt_view.specs.declared.change.Batch.{Batch}
 use Rattle.rt_view.specs.declared.change.Change.{Change}
 use Rattle.rt_view.specs.declared.change.Change.TheVariants.{Removed, Added, Moved, Changed, Value}
 use Rattle.rt_lines.specs.Printing.{json_text, tree_text}

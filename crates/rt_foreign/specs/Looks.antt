@@ -1,6 +1,6 @@
 -- What a client gives beside what its seats are told: its cover, push ids, and why it was refused.
 use Rattle.std.specs.Prelude.{◌≡◌, ◌⊎◌, ◌<◌, ◌≤◌, ◌++◌, ℕ, List, length, codes, Option, Some, None}
-use Rattle.rt_cover.specs.declared.kept.Kept.{Kept}
+use Rattle.rt_cover.specs.declared.listen.Kept.{Kept}
 use Rattle.rt_push.specs.declared.error.PushError.{PushError}
 use Rattle.rt_push.specs.Digits.{number}
 use Rattle.rt_push.specs.PushIds.{push_fault, push_id, used}

@@ -17,8 +17,8 @@ use Rattle.rt_wire.specs.declared.request.Ending.TheVariants.{Run, Cancel}
 use Rattle.rt_wire.specs.declared.client.ClientMessage.{ClientMessage}
 use Rattle.rt_wire.specs.declared.client.ClientMessage.TheVariants as message
 use Rattle.rt_wire.specs.Client.{client_message}
-use Rattle.rt_world.specs.declared.call.Call.{Call}
-use Rattle.rt_world.specs.declared.call.Call.TheVariants.{Listen, Write, OnDisconnect}
+use Rattle.rt_world.specs.declared.step.Call.{Call}
+use Rattle.rt_world.specs.declared.step.Call.TheVariants.{Listen, Write, OnDisconnect}
 use Rattle.rt_lines.specs.declared.error.LineError.{LineError}
 use Rattle.rt_lines.specs.declared.error.LineError.TheVariants.{Bad, Refused}
 use Rattle.rt_lines.specs.declared.error.Refusal.TheVariants.{Tree, Wire}

@@ -1,9 +1,9 @@
 // A client with its seats, as C holds it.
-ghost use Rattle.std.specs.Prelude.{◌≡◌, ◌⊎◌, ◌<◌, ◌≤◌, ◌+◌, if◌then◌else◌, List, length, string_bytes};
-ghost use Rattle.std.specs.Prelude.{None, IfOk, IfErr, IfSome, OnOk};
-ghost use Rattle.rt_cover.specs.declared.kept.Kept.{Kept};
+ghost use Rattle.std.specs.Prelude.{◌≡◌, ◌⊎◌, ◌<◌, ◌≤◌, ◌+◌, if◌then◌else◌, List, length, string_bytes, None};
+ghost use Rattle.std.specs.Prelude.{IfOk, IfErr, IfSome, OnOk, Ok, Err};
+ghost use Rattle.rt_cover.specs.declared.listen.Kept.{Kept};
 ghost use Rattle.rt_client.specs.declared.error.ClientError.TheVariants.{TooManySeats, NoMemory};
-ghost use Rattle.rt_client.specs.Calls.{HasFailed};
+ghost use Rattle.rt_client.specs.Calls.{HasFailed, Comes, RefusesOn};
 ghost use Rattle.rt_client.specs.Settling.{RefusesCover, ShowsCover};
 ghost use Rattle.rt_lines.specs.Printing.{cover_text};
 ghost use Rattle.rt_foreign.specs.Asking.{AsksFor, CallsSeat, Settles, Tells, WantsOf};
@@ -11,20 +11,21 @@ ghost use Rattle.rt_foreign.specs.Clients.{new_client, place_at, places_from, un
 ghost use Rattle.rt_foreign.specs.Connection.{HearsOf, IsHeard, IsUnheard, LooksOut, Sends};
 ghost use Rattle.rt_foreign.specs.Looks.{GivesKey, GivesWhy, Shows};
 ghost use Rattle.rt_foreign.specs.Refusing.{refusal_of, refusal_read, status_of, status_read};
+ghost use Rattle.rt_foreign.specs.Events.{event_read, is_end, step_of_event};
 
-use crate::event::{Event, tell};
+use crate::calls::text_of;
 use crate::place::Place;
+use crate::session::give;
 use crate::status::{
     DONE, FAILED, NO_MEMORY, NONE, REFUSED, TOO_SMALL, WRONG_SEAT, refusal_of, refusal_read,
     status_of, status_of_outcome, status_read,
 };
-use crate::text::give;
 use crate::wants::Wants;
 use rt_client::{Call, ClientError, Seat, Shared, with_seat};
 use rt_lines::{LineError, Refusal, write_cover};
 use rt_view::Kinds;
-use rt_wire::ClientMessage;
-use rt_world::Limits;
+use rt_wire::{ClientMessage, ServerMessage, WireError};
+use rt_world::{Limits, Outcome};
 use std::alloc::{AllocError, Global};
 use std::marker::Model;
 use std::mem;
@@ -344,5 +345,51 @@ impl Client {
         };
         *code = refusal.code() as u32;
         give(text.as_str().as_bytes(), out, len)
+    }
+}
+
+// ---- what the connection brings
+
+/// What the connection brings: that it stands, that it has ended, a message of the server.
+#[derive(Drop)]
+pub enum Event {
+    Connected,
+    Disconnected,
+    Message(ServerMessage),
+}
+
+impl Event {
+    // Whether the connection has ended.
+    pub(crate) fn is_end(&self) -> bool
+        ensures { result ≡ is_end self.now }
+    {
+        match self {
+            Event::Disconnected => true,
+            Event::Connected | Event::Message(_) => false,
+        }
+    }
+}
+
+/// The message of the server that a text is.
+pub fn message_of(alloc: Global, bytes: &[u8]) -> Result<Event, LineError>
+    ensures ok { IfOk result (λ event. event_read bytes.now ≡ Ok event) }
+    ensures fault { IfErr result (λ e. (event_read bytes.now ≡ Err e) ⊎ (e ≡ LineError.NoMemory)) }
+{
+    match ServerMessage::read(alloc, text_of(bytes)?) {
+        Ok(message) => Ok(Event::Message(message)),
+        Err(WireError::NoMemory) => Err(LineError::NoMemory),
+        Err(error) => Err(LineError::Refused(Refusal::Wire(error))),
+    }
+}
+
+/// Makes the step of what the connection brings.
+pub(crate) fn tell(shared: &mut Shared, event: Event) -> Result<Outcome, ClientError>
+    ensures made { IfOk result (λ outcome. Comes shared.old (step_of_event event) outcome shared.new) }
+    ensures refused { IfErr result (λ e. RefusesOn shared.old (step_of_event event) e shared.new) }
+{
+    match event {
+        Event::Connected => shared.connected(),
+        Event::Disconnected => shared.disconnected(),
+        Event::Message(message) => shared.server_message(message),
     }
 }

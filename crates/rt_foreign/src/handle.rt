@@ -5,7 +5,7 @@ ghost use Rattle.rt_foreign.specs.declared.held.Held.{Held};
 ghost use Rattle.rt_foreign.specs.contracts.held.Held.{the_row as the_held};
 
 use crate::held::Held;
-use crate::parts::Parts;
+use crate::parts::BoxParts;
 use std::alloc::Global;
 use std::marker::Model;
 use std::{mem, ptr};
@@ -33,22 +33,22 @@ impl Loose {
         }
     }
 
-    fn of(parts: Parts<Held, Global>) -> Loose
+    fn of(parts: BoxParts<Held, Global>) -> Loose
         ensures { result.value ≡ Some parts.value }
     {
-        let Parts { ptr, alloc } = parts;
+        let BoxParts { ptr, alloc } = parts;
         Loose {
             at: ptr as *mut u8,
             alloc,
         }
     }
 
-    fn into_parts(self) -> Parts<Held, Global>
+    fn into_parts(self) -> BoxParts<Held, Global>
         requires { is_some self.value ≡ true }
         ensures { Some result.value ≡ self.value }
     {
         let Loose { at, alloc } = self;
-        Parts {
+        BoxParts {
             ptr: at as *mut Held,
             alloc,
         }
@@ -94,7 +94,7 @@ impl Handle {
     {
         *self = Handle {
             is_open: true,
-            loose: Loose::of(Parts::of(held)),
+            loose: Loose::of(BoxParts::of(held)),
         };
     }
 }

@@ -12,33 +12,29 @@
 //! No call requires anything. Each ends with a status, a number that `include/kaltewi.h` names.
 #![tactic(auto)]
 
+mod calls;
 mod client;
-mod event;
 pub mod examples;
 mod handle;
 mod held;
 mod item;
 mod parts;
 mod place;
-mod reading;
 mod session;
 mod status;
-mod text;
 mod wants;
 
-pub use client::Client;
-pub use event::{Event, message_of};
+pub use calls::{
+    at_end_call, cancel_call, listen_call, remove_call, set_call, update_at_end_call, update_call,
+};
+pub use client::{Client, Event, message_of};
 pub use handle::Handle;
 pub use held::Held;
 pub use item::item_text;
 pub use place::Place;
-pub use reading::{
-    at_end_call, cancel_call, listen_call, remove_call, set_call, update_at_end_call, update_call,
-};
-pub use session::Session;
+pub use session::{Session, give};
 pub use status::{
     BAD_TEXT, CLOSED, DONE, FAILED, MAILBOX_FULL, NO_MEMORY, NONE, REFUSED, STALE, TOO_MANY_SEATS,
     TOO_SMALL, WRONG_SEAT, status_of,
 };
-pub use text::give;
 pub use wants::{Wants, kinds_of};

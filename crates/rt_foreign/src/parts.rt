@@ -7,7 +7,7 @@ use std::marker::Model;
 
 /// A box taken apart: where its value lies, and the allocator that frees it. It owns what the box owned,
 /// so it is made by a box, and made a box again, and by a function whose proof moves what it owns.
-pub(crate) struct Parts<T, A: Allocator> {
+pub(crate) struct BoxParts<T, A: Allocator> {
     /// Where the value lies, which is never null.
     pub ptr: *mut T,
     /// Who frees it.
@@ -16,26 +16,26 @@ pub(crate) struct Parts<T, A: Allocator> {
     pub ghost value: { T },
 }
 
-impl<T, A: Allocator> Model for Parts<T, A> {
+impl<T, A: Allocator> Model for BoxParts<T, A> {
     ghost also_owns = { λ p. box_owns (A.dealloc_token p.alloc) T.row p.ptr p.value };
 }
 
-impl<T, A: Allocator> Parts<T, A> {
+impl<T, A: Allocator> BoxParts<T, A> {
     /// Takes a box apart.
-    pub fn of(whole: Box<T, A>) -> Parts<T, A>
+    pub fn of(whole: Box<T, A>) -> BoxParts<T, A>
     where
         T: Drop,
         ensures value { result.value ≡ whole.value }
     {
         let (ptr, alloc) = Box::into_raw_with_allocator(whole);
-        Parts { ptr, alloc }
+        BoxParts { ptr, alloc }
     }
 
     /// The box again.
     pub fn into_box(self) -> Box<T, A>
         ensures value { result.value ≡ self.value }
     {
-        let Parts { ptr, alloc } = self;
+        let BoxParts { ptr, alloc } = self;
         unsafe { Box::from_raw(alloc, ptr) }
     }
 }

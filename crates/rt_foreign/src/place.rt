@@ -2,8 +2,8 @@
 ghost use Rattle.std.specs.Prelude.{◌≡◌, OnOk, IfErr};
 ghost use Rattle.rt_foreign.specs.Places.{GivesNext, looked};
 
+use crate::session::give;
 use crate::status::{DONE, NO_MEMORY, NONE};
-use crate::text::give;
 use crate::wants::Wants;
 use rt_client::Seat;
 use rt_mail::Item;

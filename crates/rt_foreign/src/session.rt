@@ -1,8 +1,9 @@
 // A core that lines drive, and what the last line printed.
 ghost use Rattle.std.specs.Prelude.{◌≡◌};
 ghost use Rattle.rt_foreign.specs.Sessions.{TakesLine, new_session};
+ghost use Rattle.rt_foreign.specs.Texts.{Gives};
 
-use crate::status::{BAD_TEXT, DONE, NO_MEMORY};
+use crate::status::{BAD_TEXT, DONE, NO_MEMORY, TOO_SMALL};
 use rt_script::{State, do_bytes};
 use rt_world::Limits;
 use std::alloc::Global;
@@ -68,4 +69,19 @@ impl Session {
     {
         self.printed.as_str()
     }
+}
+
+// ---- texts that C is given
+
+/// Copies a text to the front of its room, where there is enough, and says how long it is.
+pub fn give(text: &[u8], out: &mut [u8], len: &mut usize) -> u32
+    ensures { Gives text.now out.old result out.new len.new }
+{
+    *len = text.len();
+    if out.len() < text.len() {
+        return TOO_SMALL;
+    }
+    let (front, _rest) = out.split_at_mut(text.len());
+    front.copy_from_slice(text);
+    DONE
 }

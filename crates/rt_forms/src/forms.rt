@@ -1,23 +1,27 @@
 // The tree of forms.
-ghost use Rattle.std.specs.Prelude.{◌≡◌, ◌<◌, ◌+◌, ◌^◌, ◌==◌, [], ℕ, Bool, true, false, length, if◌then◌else◌};
-ghost use Rattle.std.specs.Prelude.{◌++◌, OnOk, OnErr, IfOk, IfSome};
+ghost use Rattle.std.specs.Prelude.{◌≡◌, ◌<◌, ◌+◌, ◌^◌, ◌==◌, [], ℕ, Bool, true, false, length};
+ghost use Rattle.std.specs.Prelude.{if◌then◌else◌, ◌++◌, OnOk, OnErr, IfOk, IfSome, ◌≢◌, ◌≤◌, ◌∷◌, Option};
+ghost use Rattle.std.specs.Prelude.{None, Some};
 ghost use Rattle.std.specs.List.{list_any};
-ghost use Rattle.std.specs.Option.{option_copied, option_map_or};
+ghost use Rattle.std.specs.Option.{option_copied, option_map_or, option_map};
+ghost use Rattle.slab.specs.Slab.{get, slab_len};
 ghost use Rattle.rt_query.specs.Queries.{Query as QueryValue, plain};
-ghost use Rattle.rt_nodes.specs.Forest.{row_at};
+ghost use Rattle.rt_nodes.specs.Forest.{row_at, IsRow, times};
 ghost use Rattle.rt_forms.specs.Numbers.{with_number, without_number};
 ghost use Rattle.rt_tree.specs.Assignments.{is_at_or_above};
-ghost use Rattle.rt_forms.specs.Forms.{numbers, count, share_form, IsAsBefore, IsHeardUnder};
-ghost use Rattle.rt_forms.specs.Forms.{AreFilteredAt};
+ghost use Rattle.rt_forms.specs.Forms.{numbers, count, share_form, IsAsBefore, IsHeardUnder, AreFilteredAt};
 ghost use Rattle.rt_forms.specs.Order.{AreInOrder};
 ghost use Rattle.rt_forms.specs.inside.FormsView.{all_under};
-ghost use Rattle.rt_forms.specs.inside.Trees.{own, seen, AreAt};
+ghost use Rattle.rt_forms.specs.inside.Trees.{own, seen, AreAt, seen_in, total, Good, IsAdded, HasRoomAt};
+ghost use Rattle.rt_forms.specs.inside.Trees.{Gains, MayPass, Passes, IsTaken, pruned, HasAt, Loses};
+ghost use Rattle.rt_forms.specs.inside.Trees.{MayLeave, Leaves, all_own, all_in};
+ghost use Rattle.rt_tree.specs.PathTree.{Path};
+ghost use Rattle.rt_nodes.specs.Changes.{Same, Told, Changed, InRow, IsHead};
+ghost use Rattle.rt_nodes.specs.Walks.{IsPlace};
 
-use crate::adding::add_row;
-use crate::gathering::gather_at;
-use crate::removing::remove_row;
+use crate::growth::grow;
 use crate::standing::{Filtered, Standing};
-use rt_nodes::{Linked, Siblings};
+use rt_nodes::{Linked, Siblings, Spot};
 use rt_query::Query;
 use rt_tree::Key;
 use std::alloc::{AllocError, Global};
@@ -240,4 +244,198 @@ impl Forms {
             }
         }
     }
+}
+
+// ---- a listener is registered at a path below a row
+
+// Registers a listener at a node.
+fn add_at(
+    nodes: &mut Linked<Standing>,
+    alloc: Global,
+    index: usize,
+    number: u64,
+    query: &Query,
+) -> Result<(), AllocError>
+    requires { HasRoomAt nodes.old index number query.now }
+    ensures ok { OnOk result (Gains nodes.old nodes.new index query.now number) }
+    ensures err { OnErr result (Same nodes.old nodes.new) }
+{
+    let below = nodes.get(index).unwrap().first_child;
+    let mut standing = nodes.exchange(index, Standing::new(alloc)).unwrap();
+    let added = standing.add(alloc, number, query);
+    nodes.set_content(index, standing, below);
+    added
+}
+
+// A listener was registered under a node, whose first child is this one now.
+fn pass_at(nodes: &mut Linked<Standing>, alloc: Global, index: usize, below: Option<usize>)
+    requires { MayPass nodes.old index }
+    ensures { Passes nodes.old nodes.new index below }
+{
+    let mut standing = nodes.exchange(index, Standing::new(alloc)).unwrap();
+    standing.pass();
+    nodes.set_content(index, standing, below);
+}
+
+// Registers a listener at a path below a row. The answer is the first node of the row then. All nodes
+// are made before the first of the row changes.
+pub(crate) fn add_row(
+    nodes: &mut Linked<Standing>,
+    alloc: Global,
+    row: Siblings,
+    key: &Key,
+    rest: &[Key],
+    number: u64,
+    query: &Query,
+) -> Result<Option<usize>, AllocError>
+    requires row { IsRow nodes.old row.first row.parent None (row_at nodes.old row.first) }
+    requires told { Told nodes.old row.first row.parent }
+    requires once { (n : ℕ) → times n (row_at nodes.old row.first) ≤ 1 }
+    requires good { (d : Path) × (query.now.path ≡ d ++ (key.now ∷ rest.now))
+        × Good d (row_at nodes.old row.first) }
+    requires room { total (row_at nodes.old row.first) + 1 < 2 ^ 64 }
+    requires free { list_any (λ m. m == number)
+        (seen_in query.now key.now rest.now (row_at nodes.old row.first)) ≡ false }
+    ensures ok { IfOk result (λ first.
+        IsAdded nodes.old nodes.new row.first first row.parent key.now rest.now query.now number) }
+    ensures err { OnErr result (Same nodes.old nodes.new) }
+{
+    let index = match nodes.seek(row, key) {
+        Spot::Here(index) => index,
+        Spot::Gap(previous, next) => {
+            let index = grow(nodes, alloc, row.parent, key, rest, number, query)?;
+            nodes.link(previous, index, next);
+            return match previous {
+                None => Ok(Some(index)),
+                Some(_) => Ok(row.first),
+            };
+        }
+    };
+    match rest.split_first() {
+        None => add_at(nodes, alloc, index, number, query)?,
+        Some((child, rest)) => {
+            let below = Siblings {
+                parent: Some(index),
+                first: nodes.get(index).unwrap().first_child,
+            };
+            let below = add_row(nodes, alloc, below, child, rest, number, query)?;
+            pass_at(nodes, alloc, index, below);
+        }
+    }
+    Ok(row.first)
+}
+
+// ---- a listener ends at a path below a row
+
+// Ends a listener at a node.
+fn end_at(nodes: &mut Linked<Standing>, alloc: Global, index: usize, number: u64, query: &Query)
+    requires { HasAt nodes.old index number query.now }
+    ensures { Loses nodes.old nodes.new index query.now number }
+{
+    let below = nodes.get(index).unwrap().first_child;
+    let mut standing = nodes.exchange(index, Standing::new(alloc)).unwrap();
+    standing.remove(number, query);
+    nodes.set_content(index, standing, below);
+}
+
+// A listener ended under a node, whose first child is this one now.
+fn leave_at(nodes: &mut Linked<Standing>, alloc: Global, index: usize, below: Option<usize>)
+    requires { MayLeave nodes.old index }
+    ensures { Leaves nodes.old nodes.new index below }
+{
+    let mut standing = nodes.exchange(index, Standing::new(alloc)).unwrap();
+    standing.fall();
+    nodes.set_content(index, standing, below);
+}
+
+// Takes a node out of its row, where no listener is left at or under it. The answer is the first node
+// that is left.
+fn prune(nodes: &mut Linked<Standing>, first: Option<usize>, index: usize) -> Option<usize>
+    requires head { IsHead nodes.old first }
+    requires once { (n : ℕ) → times n (row_at nodes.old first) ≤ 1 }
+    requires there { InRow index (row_at nodes.old first) }
+    ensures row { (parent : Option ℕ) → IsRow nodes.old first parent None (row_at nodes.old first)
+        → IsRow nodes.new result parent None (pruned index (row_at nodes.old first)) }
+    ensures changed { Changed nodes.old nodes.new (row_at nodes.old first)
+        (pruned index (row_at nodes.old first)) }
+{
+    if nodes.get(index).unwrap().value.count() > 0 {
+        return first;
+    }
+    nodes.take_out(first, index)
+}
+
+// Ends a listener at a path below a row. The answer is the first node of the row then: a node at or
+// under which no listener is left goes.
+pub(crate) fn remove_row(
+    nodes: &mut Linked<Standing>,
+    alloc: Global,
+    row: Siblings,
+    key: &Key,
+    rest: &[Key],
+    number: u64,
+    query: &Query,
+) -> Option<usize>
+    requires row { IsRow nodes.old row.first row.parent None (row_at nodes.old row.first) }
+    requires told { Told nodes.old row.first row.parent }
+    requires once { (n : ℕ) → times n (row_at nodes.old row.first) ≤ 1 }
+    requires good { (d : Path) × Good d (row_at nodes.old row.first) }
+    requires there { list_any (λ m. m == number)
+        (seen_in query.now key.now rest.now (row_at nodes.old row.first)) ≡ true }
+    ensures { IsTaken nodes.old nodes.new row.first result row.parent key.now rest.now query.now number }
+{
+    let Spot::Here(index) = nodes.seek(row, key) else {
+        return row.first;
+    };
+    match rest.split_first() {
+        None => {
+            end_at(nodes, alloc, index, number, query);
+            prune(nodes, row.first, index)
+        }
+        Some((child, rest)) => {
+            let below = Siblings {
+                parent: Some(index),
+                first: nodes.get(index).unwrap().first_child,
+            };
+            let below = remove_row(nodes, alloc, below, child, rest, number, query);
+            leave_at(nodes, alloc, index, below);
+            prune(nodes, row.first, index)
+        }
+    }
+}
+
+// ---- the numbers of all listeners at and under a path
+
+// Adds the numbers of a row, with those of all below it.
+fn gather_row(
+    nodes: &Linked<Standing>,
+    first: Option<usize>,
+    numbers: &mut Vec<u64>,
+) -> Result<(), AllocError>
+    requires { IsPlace nodes.now first }
+    ensures { OnOk result (numbers.new.items ≡ numbers.old.items ++ all_in (row_at nodes.now first)) }
+{
+    let mut next = first;
+    while let Some(index) = next {
+        let slot = nodes.get(index).unwrap();
+        slot.value.gather(numbers)?;
+        gather_row(nodes, slot.first_child, numbers)?;
+        next = slot.next;
+    }
+    Ok(())
+}
+
+// Adds the numbers of what is registered at a path, and of the row below it with all below that.
+pub(crate) fn gather_at(
+    nodes: &Linked<Standing>,
+    standing: &Standing,
+    below: Option<usize>,
+    numbers: &mut Vec<u64>,
+) -> Result<(), AllocError>
+    requires { IsPlace nodes.now below }
+    ensures { OnOk result (numbers.new.items
+        ≡ numbers.old.items ++ (all_own standing.now ++ all_in (row_at nodes.now below))) }
+{
+    standing.gather(numbers)?;
+    gather_row(nodes, below, numbers)
 }

@@ -5,12 +5,9 @@
 //! A contract sees the tree as the numbers of the listeners of each form (`specs/Forms.antt`).
 #![tactic(auto)]
 
-mod adding;
 mod forms;
-mod gathering;
-mod growing;
+mod growth;
 mod numbers;
-mod removing;
 mod standing;
 
 pub use forms::Forms;

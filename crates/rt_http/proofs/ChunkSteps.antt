@@ -9,9 +9,9 @@ use Rattle.httparse.specs.Ascii.{crlf_bytes}
 use Rattle.httparse.specs.Grammar.{ChunkLine, HasNoChunkLine, HasNoSection, ReadsChunkLine, chunk_size, print_chunk_line, print_section}
 use Rattle.httparse.proofs.ChunkLemmas.{chunk_line_unique}
 use Rattle.rt_http.specs.inside.Pieces.{IsDataAt, IsLastAt}
-use Rattle.rt_http.specs.declared.chunks.Piece.{Piece}
-use Rattle.rt_http.specs.declared.chunks.Piece.TheVariants as piece
-use Rattle.rt_http.specs.declared.refusal.Refusal.{Refusal}
+use Rattle.rt_http.specs.declared.request.Piece.{Piece}
+use Rattle.rt_http.specs.declared.request.Piece.TheVariants as piece
+use Rattle.rt_http.specs.declared.fault.Refusal.{Refusal}
 use Rattle.rt_http.specs.Chunks.{AreRead, Chunk, End, HasNoPiece, IsChunk, IsPieceAt, ReadsEnd, bytes_of, print_chunk, print_end}
 
 -- ---- no piece

@@ -3,7 +3,7 @@ use Rattle.std.proofs.Common.{◌≡◌, ◌∙◌, ℕ, List, Result, Ok, Err, 
 use Rattle.websocket.specs.Handshake.{Answers}
 use Rattle.websocket.specs.declared.handshake.failure.HandshakeError.{HandshakeError}
 use Rattle.rt_http.specs.Handshakes.{IsJudged, refused_for}
-use Rattle.rt_http.specs.declared.refusal.Refusal.{Refusal}
+use Rattle.rt_http.specs.declared.fault.Refusal.{Refusal}
 
 pub judged_err : (key : Result (List ℕ) HandshakeError) (why : HandshakeError) (e : Refusal) (size : ℕ)
     → Answers (Err why) key → e ≡ refused_for why → IsJudged key size (Err e)

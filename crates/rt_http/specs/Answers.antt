@@ -1,11 +1,11 @@
 -- The bytes of an answer.
 use Rattle.std.specs.Prelude.{ℕ, List, [], ◌∷◌, ◌++◌, Bool, Option, Some, None, length, if◌then◌else◌, codes, decimal}
 use Rattle.rt_http.specs.Statuses.{line_of}
-use Rattle.rt_http.specs.declared.status.Status.{Status}
-use Rattle.rt_http.specs.declared.status.Status.TheVariants.{Okay, BadRequest, Unauthorized, Forbidden, NotFound}
-use Rattle.rt_http.specs.declared.status.Status.TheVariants.{MethodNotAllowed, PayloadTooLarge, ExpectationFailed}
-use Rattle.rt_http.specs.declared.status.Status.TheVariants.{UpgradeRequired, FieldsTooLarge, NotImplemented, Unavailable}
-use Rattle.rt_http.specs.declared.status.Status.TheVariants.{VersionNotSupported, ReadOnly}
+use Rattle.rt_http.specs.declared.answer.Status.{Status}
+use Rattle.rt_http.specs.declared.answer.Status.TheVariants.{Okay, BadRequest, Unauthorized, Forbidden, NotFound}
+use Rattle.rt_http.specs.declared.answer.Status.TheVariants.{MethodNotAllowed, PayloadTooLarge, ExpectationFailed}
+use Rattle.rt_http.specs.declared.answer.Status.TheVariants.{UpgradeRequired, FieldsTooLarge, NotImplemented, Unavailable}
+use Rattle.rt_http.specs.declared.answer.Status.TheVariants.{VersionNotSupported, ReadOnly}
 
 -- the end of a line
 abbrev pub line_end : List ℕ

@@ -23,11 +23,11 @@ use Rattle.rt_http.specs.declared.ask.Ask.TheVariants as ask
 use Rattle.rt_http.specs.declared.ask.Asked.{Asked}
 use Rattle.rt_http.specs.declared.fault.Fault.{Fault}
 use Rattle.rt_http.specs.declared.fault.Fault.TheVariants as fault
-use Rattle.rt_http.specs.declared.marks.Unsupported.{Unsupported}
-use Rattle.rt_http.specs.declared.method.Method.{Method}
-use Rattle.rt_http.specs.declared.method.Method.TheVariants as method
-use Rattle.rt_http.specs.declared.place.Place.{Place}
-use Rattle.rt_http.specs.declared.place.Place.TheVariants as place
+use Rattle.rt_http.specs.declared.head.Unsupported.{Unsupported}
+use Rattle.rt_http.specs.declared.head.Method.{Method}
+use Rattle.rt_http.specs.declared.head.Method.TheVariants as method
+use Rattle.rt_http.specs.declared.resource.TargetPlace.{TargetPlace}
+use Rattle.rt_http.specs.declared.resource.TargetPlace.TheVariants as place
 
 -- ---- bodies
 
@@ -125,7 +125,7 @@ asked_at path method query body =
     and_then (ask_at path method words.is_shallow (raw_pairs query) body) (λ ask. Ok (record { ask = ask; is_pretty = words.is_pretty })))
 
 -- what is asked for at a place
-abbrev pub asked_in : Place → Method → List ℕ → List ℕ → Result Asked Fault
+abbrev pub asked_in : TargetPlace → Method → List ℕ → List ℕ → Result Asked Fault
 asked_in place.Health method query body = health_of method
 asked_in (place.Tree path) method query body = asked_at path method query body
 

@@ -3,8 +3,8 @@ use Rattle.std.specs.Prelude.{◌≡◌, ℕ, ◌+◌, ◌≤◌, ◌<◌, Bool,
 use Rattle.std.specs.List.{flat_map}
 use Rattle.httparse.specs.Ascii.{crlf_bytes}
 use Rattle.httparse.specs.Grammar.{ChunkLine, Field, IsChunkLine, IsField, LineEnd, chunk_size, print_chunk_line, print_section}
-use Rattle.rt_http.specs.declared.chunks.Piece.{Piece}
-use Rattle.rt_http.specs.declared.chunks.Piece.TheVariants.{More, Data, Last}
+use Rattle.rt_http.specs.declared.request.Piece.{Piece}
+use Rattle.rt_http.specs.declared.request.Piece.TheVariants.{More, Data, Last}
 
 -- a chunk: its line, and its bytes
 pub record Chunk : Type 0 where

@@ -4,11 +4,11 @@ use Rattle.rt_tree.specs.declared.error.TreeError.{TreeError}
 use Rattle.rt_tree.specs.declared.error.TreeError.TheVariants as tree
 use Rattle.rt_http.specs.declared.fault.Fault.{Fault}
 use Rattle.rt_http.specs.declared.fault.Fault.TheVariants as fault
-use Rattle.rt_http.specs.declared.marks.Unsupported.{Unsupported}
-use Rattle.rt_http.specs.declared.marks.Unsupported.TheVariants.{Events, Etags, Login, Override}
-use Rattle.rt_http.specs.declared.status.Status.{Status}
-use Rattle.rt_http.specs.declared.status.Status.TheVariants.{BadRequest, Unauthorized, Forbidden, NotFound, MethodNotAllowed, NotImplemented, Unavailable}
-use Rattle.rt_http.specs.declared.status.Status.TheVariants.{ReadOnly}
+use Rattle.rt_http.specs.declared.head.Unsupported.{Unsupported}
+use Rattle.rt_http.specs.declared.head.Unsupported.TheVariants.{Events, Etags, Login, Override}
+use Rattle.rt_http.specs.declared.answer.Status.{Status}
+use Rattle.rt_http.specs.declared.answer.Status.TheVariants.{BadRequest, Unauthorized, Forbidden, NotFound, MethodNotAllowed, NotImplemented, Unavailable}
+use Rattle.rt_http.specs.declared.answer.Status.TheVariants.{ReadOnly}
 
 -- what becomes of a request that is refused so
 abbrev pub fault_status : Fault → Status

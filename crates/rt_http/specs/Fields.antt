@@ -2,8 +2,8 @@
 use Rattle.std.specs.Prelude.{ℕ, List, [], ◌∷◌, Bool, ◌&&◌, if◌then◌else◌, Option, Some, None, Result, Ok, Err}
 use Rattle.std.specs.List.{list_any}
 use Rattle.std.specs.Str.{str_eq_ignore_ascii_case}
-use Rattle.rt_http.specs.declared.refusal.Refusal.{Refusal}
-use Rattle.rt_http.specs.declared.refusal.Refusal.TheVariants.{Malformed}
+use Rattle.rt_http.specs.declared.fault.Refusal.{Refusal}
+use Rattle.rt_http.specs.declared.fault.Refusal.TheVariants.{Malformed}
 
 -- a field of that name, in capitals or not
 abbrev pub is_named : List ℕ → List ℕ × List ℕ → Bool

@@ -20,14 +20,14 @@ use Rattle.rt_query.specs.Drafts.{Draft, finished, new_draft}
 use Rattle.rt_query.specs.Queries.{Query}
 use Rattle.rt_query.specs.declared.error.QueryError.{QueryError}
 use Rattle.rt_query.specs.declared.error.QueryError.TheVariants as refused
-use Rattle.rt_query.specs.declared.limit.Limit.{Limit}
-use Rattle.rt_query.specs.declared.limit.Limit.TheVariants.{First, Last}
+use Rattle.rt_query.specs.declared.query.Limit.{Limit}
+use Rattle.rt_query.specs.declared.query.Limit.TheVariants.{First, Last}
 use Rattle.rt_http.specs.Steps.{and_then}
 use Rattle.rt_http.specs.Targets.{is_filter, path_of, unescaped, value_of}
 use Rattle.rt_http.specs.declared.fault.Fault.{Fault}
 use Rattle.rt_http.specs.declared.fault.Fault.TheVariants as fault
-use Rattle.rt_http.specs.declared.filter.Bound.{Bound as Which}
-use Rattle.rt_http.specs.declared.filter.Bound.TheVariants as which
+use Rattle.rt_http.specs.declared.resource.Bound.{Bound as Which}
+use Rattle.rt_http.specs.declared.resource.Bound.TheVariants as which
 
 -- ---- what words say
 

@@ -9,8 +9,8 @@ use Rattle.websocket.specs.Headers.{fields_of}
 use Rattle.websocket.specs.declared.handshake.failure.HandshakeError.{HandshakeError}
 use Rattle.websocket.specs.declared.handshake.failure.HandshakeError.TheVariants as why
 use Rattle.rt_http.specs.declared.limits.TheConstants.{MAX_FIELDS}
-use Rattle.rt_http.specs.declared.refusal.Refusal.{Refusal}
-use Rattle.rt_http.specs.declared.refusal.Refusal.TheVariants.{Malformed, NoHandshake, OtherVersion, NoMemory}
+use Rattle.rt_http.specs.declared.fault.Refusal.{Refusal}
+use Rattle.rt_http.specs.declared.fault.Refusal.TheVariants.{Malformed, NoHandshake, OtherVersion, NoMemory}
 
 -- how a head is refused that is no handshake, for that reason
 abbrev pub refused_for : HandshakeError → Refusal

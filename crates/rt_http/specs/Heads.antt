@@ -4,9 +4,9 @@ use Rattle.std.specs.Prelude.{Option, Some, None, Result, Ok, Err, codes}
 use Rattle.rt_http.specs.Fields.{only, values_of}
 use Rattle.rt_http.specs.Marks.{marks_of}
 use Rattle.rt_http.specs.Steps.{and_then}
-use Rattle.rt_http.specs.declared.marks.Marks.{Marks}
-use Rattle.rt_http.specs.declared.refusal.Refusal.{Refusal}
-use Rattle.rt_http.specs.declared.refusal.Refusal.TheVariants.{Malformed}
+use Rattle.rt_http.specs.declared.head.Marks.{Marks}
+use Rattle.rt_http.specs.declared.fault.Refusal.{Refusal}
+use Rattle.rt_http.specs.declared.fault.Refusal.TheVariants.{Malformed}
 
 -- what is done with a request, what it asks for, whom it asks, and of what page it is
 pub record Said : Type 0 where

@@ -6,14 +6,14 @@ use Rattle.httparse.specs.Grammar.{HasNoRequest}
 use Rattle.rt_http.specs.Chunks.{AreRead}
 use Rattle.rt_http.specs.Heads.{Said}
 use Rattle.rt_http.specs.Readings.{IsHead, IsRefusedHead}
-use Rattle.rt_http.specs.declared.incoming.Turn.{Turn}
-use Rattle.rt_http.specs.declared.incoming.Turn.TheVariants as turn
+use Rattle.rt_http.specs.declared.request.Turn.{Turn}
+use Rattle.rt_http.specs.declared.request.Turn.TheVariants as turn
 use Rattle.rt_http.specs.declared.limits.TheConstants.{MAX_HEAD_BYTES}
-use Rattle.rt_http.specs.declared.marks.Framing.{Framing}
-use Rattle.rt_http.specs.declared.marks.Framing.TheVariants.{Length, Chunked}
-use Rattle.rt_http.specs.declared.marks.Marks.{Marks}
-use Rattle.rt_http.specs.declared.refusal.Refusal.{Refusal}
-use Rattle.rt_http.specs.declared.refusal.Refusal.TheVariants.{NoMemory}
+use Rattle.rt_http.specs.declared.head.Framing.{Framing}
+use Rattle.rt_http.specs.declared.head.Framing.TheVariants.{Length, Chunked}
+use Rattle.rt_http.specs.declared.head.Marks.{Marks}
+use Rattle.rt_http.specs.declared.fault.Refusal.{Refusal}
+use Rattle.rt_http.specs.declared.fault.Refusal.TheVariants.{NoMemory}
 
 -- how long a body may be, the bytes that came and are not used, the request whose head came, as much of its
 -- body as was read, whether that is all, and whether it was told to go on
@@ -62,10 +62,11 @@ front a = take MAX_HEAD_BYTES a.bytes
 abbrev pub IsOpen : Incoming → Type 0
 IsOpen a = HasNoRequest (front a) × (length a.bytes < MAX_HEAD_BYTES)
 
--- the head at the front is one of a handshake
-abbrev pub IsHandshake : Incoming → Type 0
-IsHandshake a =
+-- the head at the front is one of a handshake: its request is kept, and its bytes stay
+abbrev pub IsHandshake : Incoming → Incoming → Type 0
+IsHandshake a b =
     (said : Said) × (size : ℕ) × IsHead a.most (front a) size said × (said.marks.is_upgrade ≡ true)
+    × (b ≡ record a { request = Some said })
 
 -- the head at the front, which is none of a handshake, has been taken
 abbrev pub IsHeadTaken : Incoming → Marks → Incoming → Type 0
@@ -114,7 +115,7 @@ IsGone marks a t b =
 abbrev pub IsFirst : Incoming → Turn → Incoming → Type 0
 IsFirst a t b =
     ((t ≡ turn.More) × IsOpen a × (b ≡ a))
-    ⊎ ((t ≡ turn.Upgrade) × IsHandshake a × (b ≡ a))
+    ⊎ ((t ≡ turn.Upgrade) × IsHandshake a b)
     ⊎ ((marks : Marks) × (m : Incoming) × IsHeadTaken a marks m × IsGone marks m t b)
 
 -- a turn of a request, if there is one

@@ -8,13 +8,13 @@ use Rattle.std.specs.Str.Parse.{digits_value}
 use Rattle.rt_http.specs.Fields.{does_say, is_there, only, values_of}
 use Rattle.rt_http.specs.Methods.{method_of}
 use Rattle.rt_http.specs.Steps.{and_then}
-use Rattle.rt_http.specs.declared.marks.Framing.{Framing}
-use Rattle.rt_http.specs.declared.marks.Framing.TheVariants.{Length, Chunked}
-use Rattle.rt_http.specs.declared.marks.Marks.{Marks}
-use Rattle.rt_http.specs.declared.marks.Unsupported.{Unsupported}
-use Rattle.rt_http.specs.declared.marks.Unsupported.TheVariants.{Events, Etags, Login, Override}
-use Rattle.rt_http.specs.declared.refusal.Refusal.{Refusal}
-use Rattle.rt_http.specs.declared.refusal.Refusal.TheVariants.{Malformed, TooLong, Expectation, Coding}
+use Rattle.rt_http.specs.declared.head.Framing.{Framing}
+use Rattle.rt_http.specs.declared.head.Framing.TheVariants.{Length, Chunked}
+use Rattle.rt_http.specs.declared.head.Marks.{Marks}
+use Rattle.rt_http.specs.declared.head.Unsupported.{Unsupported}
+use Rattle.rt_http.specs.declared.head.Unsupported.TheVariants.{Events, Etags, Login, Override}
+use Rattle.rt_http.specs.declared.fault.Refusal.{Refusal}
+use Rattle.rt_http.specs.declared.fault.Refusal.TheVariants.{Malformed, TooLong, Expectation, Coding}
 
 -- the number that digits write, where it is at most the bound
 abbrev pub number_within : ℕ → List ℕ → Result ℕ Refusal

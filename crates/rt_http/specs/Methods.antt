@@ -1,8 +1,8 @@
 -- The methods, by their words.
 use Rattle.std.specs.Prelude.{ℕ, List, codes, if◌then◌else◌}
 use Rattle.std.specs.Str.{bytes_eq}
-use Rattle.rt_http.specs.declared.method.Method.{Method}
-use Rattle.rt_http.specs.declared.method.Method.TheVariants.{Get, Head, Put, Patch, Post, Delete, Options, Other}
+use Rattle.rt_http.specs.declared.head.Method.{Method}
+use Rattle.rt_http.specs.declared.head.Method.TheVariants.{Get, Head, Put, Patch, Post, Delete, Options, Other}
 
 -- the method of a word
 abbrev pub method_of : List ℕ → Method

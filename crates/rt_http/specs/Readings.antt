@@ -7,9 +7,9 @@ use Rattle.httparse.specs.declared.Error.TheVariants as error
 use Rattle.rt_http.specs.Heads.{Said, said_of}
 use Rattle.rt_http.specs.declared.limits.TheConstants.{MAX_FIELDS, MAX_HEAD_BYTES}
 use Rattle.rt_http.specs.declared.head.Head.{Head}
-use Rattle.rt_http.specs.declared.refusal.Refusal.{Refusal}
-use Rattle.rt_http.specs.declared.refusal.Refusal.TheVariants.{Malformed, NoHandshake, OtherVersion, TooLong, Expectation}
-use Rattle.rt_http.specs.declared.refusal.Refusal.TheVariants.{HeadTooLong, Coding, Version, NoMemory}
+use Rattle.rt_http.specs.declared.fault.Refusal.{Refusal}
+use Rattle.rt_http.specs.declared.fault.Refusal.TheVariants.{Malformed, NoHandshake, OtherVersion, TooLong, Expectation}
+use Rattle.rt_http.specs.declared.fault.Refusal.TheVariants.{HeadTooLong, Coding, Version, NoMemory}
 
 -- what a head of the grammar says
 abbrev pub head_says : ℕ → RequestHead → Result Said Refusal

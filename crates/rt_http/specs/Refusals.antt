@@ -1,7 +1,7 @@
 -- What is said of requests that are refused before it is looked at what they ask for.
 use Rattle.std.specs.Prelude.{ℕ, List, codes}
-use Rattle.rt_http.specs.declared.refusal.Refusal.{Refusal}
-use Rattle.rt_http.specs.declared.refusal.Refusal.TheVariants as refusal
+use Rattle.rt_http.specs.declared.fault.Refusal.{Refusal}
+use Rattle.rt_http.specs.declared.fault.Refusal.TheVariants as refusal
 
 -- what is wrong, for whoever asked
 abbrev pub refusal_words : Refusal → List ℕ

@@ -1,12 +1,12 @@
 -- What becomes of requests, as the first lines of answers say it.
 use Rattle.std.specs.Prelude.{ℕ, List, codes}
-use Rattle.rt_http.specs.declared.refusal.Refusal.{Refusal}
-use Rattle.rt_http.specs.declared.refusal.Refusal.TheVariants as refusal
-use Rattle.rt_http.specs.declared.status.Status.{Status}
-use Rattle.rt_http.specs.declared.status.Status.TheVariants.{Okay, BadRequest, Unauthorized, Forbidden, NotFound}
-use Rattle.rt_http.specs.declared.status.Status.TheVariants.{MethodNotAllowed, PayloadTooLarge, ExpectationFailed}
-use Rattle.rt_http.specs.declared.status.Status.TheVariants.{UpgradeRequired, FieldsTooLarge, NotImplemented, Unavailable}
-use Rattle.rt_http.specs.declared.status.Status.TheVariants.{VersionNotSupported, ReadOnly}
+use Rattle.rt_http.specs.declared.fault.Refusal.{Refusal}
+use Rattle.rt_http.specs.declared.fault.Refusal.TheVariants as refusal
+use Rattle.rt_http.specs.declared.answer.Status.{Status}
+use Rattle.rt_http.specs.declared.answer.Status.TheVariants.{Okay, BadRequest, Unauthorized, Forbidden, NotFound}
+use Rattle.rt_http.specs.declared.answer.Status.TheVariants.{MethodNotAllowed, PayloadTooLarge, ExpectationFailed}
+use Rattle.rt_http.specs.declared.answer.Status.TheVariants.{UpgradeRequired, FieldsTooLarge, NotImplemented, Unavailable}
+use Rattle.rt_http.specs.declared.answer.Status.TheVariants.{VersionNotSupported, ReadOnly}
 
 -- the number and its words
 abbrev pub line_of : Status → List ℕ

@@ -9,10 +9,10 @@ use Rattle.rt_tree.specs.Path.{path_fault, path_keys}
 use Rattle.rt_http.specs.Steps.{and_then}
 use Rattle.rt_http.specs.declared.fault.Fault.{Fault}
 use Rattle.rt_http.specs.declared.fault.Fault.TheVariants as fault
-use Rattle.rt_http.specs.declared.marks.Unsupported.TheVariants.{Login}
-use Rattle.rt_http.specs.declared.place.Place.{Place}
-use Rattle.rt_http.specs.declared.place.Place.TheVariants.{Health, Tree}
-use Rattle.rt_http.specs.declared.place.Words.{Words}
+use Rattle.rt_http.specs.declared.head.Unsupported.TheVariants.{Login}
+use Rattle.rt_http.specs.declared.resource.TargetPlace.{TargetPlace}
+use Rattle.rt_http.specs.declared.resource.TargetPlace.TheVariants.{Health, Tree}
+use Rattle.rt_http.specs.declared.resource.Words.{Words}
 
 -- the mark between a path and a query
 abbrev pub is_mark : ℕ → Bool
@@ -37,13 +37,13 @@ abbrev pub path_of : List ℕ → Result (List (List ℕ)) Fault
 path_of text = option_map_or (λ e. Err (fault.Path e)) (path_fault text) (Ok (path_keys text))
 
 -- the place of the tree that a stem names
-abbrev pub place_at : List ℕ → Result Place Fault
+abbrev pub place_at : List ℕ → Result TargetPlace Fault
 place_at stem =
     option_map_or (λ text. and_then (path_of text) (λ path. Ok (Tree path))) (unescaped stem)
     (Err fault.PathNoText)
 
 -- what stands at a path
-abbrev pub place_of : List ℕ → Result Place Fault
+abbrev pub place_of : List ℕ → Result TargetPlace Fault
 place_of path =
     if bytes_eq path (codes "/healthz") then Ok Health
     else option_map_or place_at (stem_of path) (Err fault.NotFound)

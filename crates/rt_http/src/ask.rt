@@ -6,10 +6,9 @@ ghost use Rattle.rt_http.specs.Asks.{ask_at, asked_at, asked_of, bounded, entrie
 ghost use Rattle.rt_http.specs.Asks.{object_of, path_with, read_at, read_entries, read_tree, spot_of, text_of, tree_in};
 
 use crate::fault::Fault;
-use crate::filter::{does_query, query_in};
-use crate::method::Method;
-use crate::place::{Place, path, place_of, split, words_of};
+use crate::head::Method;
 use crate::request::Request;
+use crate::resource::{TargetPlace, does_query, path, place_of, query_in, split, words_of};
 use rt_query::Query;
 use rt_tree::{Key, Path, Tree, TreeError};
 use rt_wire::is_crowded;
@@ -302,7 +301,7 @@ pub fn read_ask(alloc: Global, request: &Request, body: &[u8]) -> Result<Asked, 
     }
     let (at, query) = split(request.target());
     match place_of(alloc, at)? {
-        Place::Health => health(marks.method),
-        Place::Tree(path) => asked_at(alloc, path, marks.method, query, body),
+        TargetPlace::Health => health(marks.method),
+        TargetPlace::Tree(path) => asked_at(alloc, path, marks.method, query, body),
     }
 }

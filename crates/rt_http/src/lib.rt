@@ -15,35 +15,20 @@
 
 mod answer;
 mod ask;
-mod chunks;
 mod fault;
-mod fields;
-mod filter;
-mod handshake;
 mod head;
-mod incoming;
 mod limits;
-mod marks;
 mod message;
-mod method;
-mod place;
-mod refusal;
-mod reply;
 mod request;
-mod shallow;
-mod status;
+mod resource;
 
-pub use answer::{GO_ON, put_answer, put_file_head};
+pub use answer::{
+    GO_ON, HEALTHY, Status, error_text, laid_out, put_answer, put_file_head, refusal_text, reply_of,
+};
 pub use ask::{Ask, Asked, read_ask};
-pub use fault::Fault;
-pub use handshake::handshake_len;
-pub use incoming::{Incoming, Turn};
+pub use fault::{Fault, Refusal};
+pub use head::{Framing, Marks, Method, Unsupported, handshake_len};
 pub use limits::{MAX_CHUNK_LINE, MAX_FIELDS, MAX_FILE_BYTES, MAX_HEAD_BYTES, MAX_TRAILERS};
-pub use marks::{Framing, Marks, Unsupported};
 pub use message::{ONLY, Wanted};
-pub use method::Method;
-pub use place::named_path;
-pub use refusal::Refusal;
-pub use reply::{HEALTHY, error_text, laid_out, refusal_text, reply_of};
-pub use request::Request;
-pub use status::Status;
+pub use request::{Incoming, Request, Turn};
+pub use resource::named_path;

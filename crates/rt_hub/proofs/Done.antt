@@ -7,14 +7,14 @@ use Rattle.std.specs.Option.{option_map}
 use Rattle.std.proofs.lemmas.List.{drop_all, drop_more}
 use Rattle.std.proofs.lemmas.List.Sums.{fold-append}
 use Rattle.rt_wire.specs.declared.client.ClientMessage.{ClientMessage}
-use Rattle.rt_peer.specs.declared.sent.Sent.{Sent}
+use Rattle.rt_peer.specs.declared.pushes.Sent.{Sent}
 use Rattle.rt_peer.specs.Peers.{Peer, is_known, least_free}
 use Rattle.rt_peer.specs.Calls.{Outcome, answered, connected, fault, one}
 use Rattle.rt_peer.specs.Runs.{Call, Connect, Message, EndSome, outcome}
 use Rattle.rt_peer.specs.Turns.{connections_after, is_last_turn, turned}
-use Rattle.rt_hub.specs.declared.bounds.Bounds.{Bounds}
+use Rattle.rt_hub.specs.declared.refusal.Bounds.{Bounds}
 use Rattle.rt_hub.specs.Bounded.{bar_of, bounded, said_by, unless_barred}
-use Rattle.rt_hub.specs.declared.bar.Bar.{Bar}
+use Rattle.rt_hub.specs.declared.door.Bar.{Bar}
 use Rattle.rt_hub.specs.Hubs.{IsMade, left_line, receivers}
 use Rattle.rt_hub.specs.Lines.{Line, checked, empty_line, is_full, line_of, over_line, text_of, texts_to}
 use Rattle.rt_hub.specs.Lines.{told_more, with_text, with_texts, without_first}

@@ -10,10 +10,10 @@ use Rattle.rt_hub.specs.Runs.{Asked, Next, OfPeer, first_in, given_all, watched_
 use Rattle.rt_hub.specs.Doors.{Takes}
 use Rattle.rt_hub.specs.Handing.{AreNexts, Fewer, Hands, HasDrained, HasGiven, HasHanded, InHub, IsPassed, waits}
 use Rattle.rt_hub.specs.declared.door.Flushed.{Flushed}
-use Rattle.rt_hub.specs.declared.hand.Handed.{Handed}
-use Rattle.rt_hub.specs.declared.hand.Handed.TheVariants.{Drained, Blocked, More, Failed}
-use Rattle.rt_hub.specs.declared.hand.Passed.{Passed}
-use Rattle.rt_hub.specs.declared.hand.Passed.TheVariants as Pass
+use Rattle.rt_hub.specs.declared.turn.Handed.{Handed}
+use Rattle.rt_hub.specs.declared.turn.Handed.TheVariants.{Drained, Blocked, More, Failed}
+use Rattle.rt_hub.specs.declared.turn.Passed.{Passed}
+use Rattle.rt_hub.specs.declared.turn.Passed.TheVariants as Pass
 use Rattle.rt_hub.proofs.Joining.{bounds_made, does_append, given-append, sees_all, takes_more}
 
 -- ---- one after another

@@ -9,7 +9,7 @@ use Rattle.std.proofs.lemmas.List.Sums.{fold-append}
 use Rattle.rt_wire.specs.Client.{client_message}
 use Rattle.rt_peer.specs.Peers.{Peer}
 use Rattle.rt_hub.specs.Bounded.{after_bounded, bounded, sent_bounded}
-use Rattle.rt_peer.specs.declared.sent.Sent.{Sent}
+use Rattle.rt_peer.specs.declared.pushes.Sent.{Sent}
 use Rattle.rt_hub.specs.Hubs.{Hub, receivers}
 use Rattle.rt_hub.specs.Runs.{DoesAll, OfPeer}
 use Rattle.rt_hub.specs.Doors.{Gives}
@@ -18,9 +18,9 @@ use Rattle.rt_hub.specs.Turns.{AreMade, HasHeard, HasHeardIn, Hears, HearsTurn, 
 use Rattle.rt_hub.specs.Turns.{all_accepted, calls_of, given_accepted, given_call, next_count, request_of}
 use Rattle.rt_hub.specs.Turns.{text_accepted, text_call}
 use Rattle.rt_hub.specs.declared.door.Heard.{Heard}
-use Rattle.rt_hub.specs.declared.notes.Notes.{Notes}
-use Rattle.rt_hub.specs.declared.take.Turn.{Turn}
-use Rattle.rt_hub.specs.declared.take.Turn.TheVariants.{Idle, More, Ended}
+use Rattle.rt_hub.specs.declared.hub.Notes.{Notes}
+use Rattle.rt_hub.specs.declared.turn.Turn.{Turn}
+use Rattle.rt_hub.specs.declared.turn.Turn.TheVariants.{Idle, More, Ended}
 use Rattle.rt_hub.proofs.Joining.{after_made, does_append, gives_more, gives_none, sent-append}
 
 -- ---- one after another

@@ -4,7 +4,7 @@ use Rattle.std.proofs.Common.{append_assoc}
 use Rattle.rt_peer.specs.Peers.{Peer}
 use Rattle.rt_peer.specs.Runs.{Call}
 use Rattle.rt_hub.specs.Bounded.{after_bounded, bounded, sent_bounded}
-use Rattle.rt_hub.specs.declared.bounds.Bounds.{Bounds}
+use Rattle.rt_hub.specs.declared.refusal.Bounds.{Bounds}
 use Rattle.rt_hub.specs.Hubs.{Hub}
 use Rattle.rt_hub.specs.Runs.{Asked, DoesAll, DoesOne, Next, OfPeer, Watched, given_all, given_by}
 use Rattle.rt_hub.specs.Runs.{watched_after, watched_all, watched_in}

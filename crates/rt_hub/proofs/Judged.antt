@@ -12,18 +12,18 @@ use Rattle.rt_wire.specs.declared.request.Asked.TheVariants.{Now, AtDisconnect}
 use Rattle.rt_wire.specs.declared.request.Ending.TheVariants.{Run, Cancel}
 use Rattle.rt_wire.specs.declared.server.ServerMessage.{ServerMessage}
 use Rattle.rt_wire.specs.declared.server.ServerMessage.TheVariants as Says
-use Rattle.rt_peer.specs.declared.sent.Sent.{Sent}
+use Rattle.rt_peer.specs.declared.pushes.Sent.{Sent}
 use Rattle.rt_peer.specs.Peers.{Peer, is_denied, is_known}
 use Rattle.rt_peer.specs.Pushes.{bundled, pushes, written}
 use Rattle.rt_peer.specs.Calls.{Outcome, answered, asked, deferred, dropped, entries_of, one, refusal}
 use Rattle.rt_peer.specs.Calls.{unless_refused, wrote}
 use Rattle.rt_peer.specs.Runs.{Message, outcome}
 use Rattle.rt_hub.specs.Bounded.{bar_of, said_by, unless_barred}
-use Rattle.rt_hub.specs.declared.bar.Bar.{Bar}
-use Rattle.rt_hub.specs.declared.bar.Bar.TheVariants.{TooMany, TooLong, Unsendable}
-use Rattle.rt_hub.specs.declared.verdict.Verdict.TheVariants.{Accepted, Refused}
-use Rattle.rt_hub.specs.declared.verdict.When.{When}
-use Rattle.rt_hub.specs.declared.verdict.When.TheVariants as At
+use Rattle.rt_hub.specs.declared.door.Bar.{Bar}
+use Rattle.rt_hub.specs.declared.door.Bar.TheVariants.{TooMany, TooLong, Unsendable}
+use Rattle.rt_hub.specs.declared.refusal.Verdict.TheVariants.{Accepted, Refused}
+use Rattle.rt_hub.specs.declared.refusal.When.{When}
+use Rattle.rt_hub.specs.declared.refusal.When.TheVariants as At
 use Rattle.rt_hub.specs.Verdicts.{is_ok, says_ok, verdict_of, verdict_when, when_asked}
 use Rattle.rt_hub.specs.laws.Verdicts.{RefusedChangesNothing, RequestsAreJudged, judged, judged_barred, judged_unless}
 use Rattle.rt_hub.specs.laws.Verdicts.{unless_why}

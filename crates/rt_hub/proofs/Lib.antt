@@ -6,6 +6,7 @@ mod Hearing
 mod Joining
 mod Judged
 mod Known
+mod Listened
 mod Members
 mod Places
 mod Served

@@ -8,7 +8,7 @@ use Rattle.std.proofs.lemmas.List.{take-append-drop}
 use Rattle.rt_peer.specs.Peers.{Peer, least_free}
 use Rattle.rt_peer.specs.Runs.{Call, Connect, Message, Disconnect, EndSome}
 use Rattle.rt_peer.specs.Turns.{is_last_turn}
-use Rattle.rt_hub.specs.declared.bounds.Bounds.{Bounds}
+use Rattle.rt_hub.specs.declared.refusal.Bounds.{Bounds}
 use Rattle.rt_hub.specs.Bounded.{bounded}
 use Rattle.rt_hub.specs.Hubs.{Hub, kept_line, left_line, line_after}
 use Rattle.rt_hub.specs.Lines.{Line, checked, empty_line, is_full, over_line, texts_to, with_text, with_texts}

@@ -4,7 +4,7 @@ use Rattle.std.proofs.Common.{ap, arith, subst, Option, Some, None, IfSome}
 use Rattle.std.specs.Prelude.{◌==◌, nat_le}
 use Rattle.std.proofs.lemmas.Bool.Decides.{nat_tests}
 use Rattle.rt_peer.specs.Peers.{Peer}
-use Rattle.rt_hub.specs.declared.bounds.Bounds.{Bounds}
+use Rattle.rt_hub.specs.declared.refusal.Bounds.{Bounds}
 use Rattle.rt_hub.specs.Hubs.{Hub, IsSlowest, count_of, waits_for}
 use Rattle.rt_hub.specs.Lines.{bytes_for, line_of}
 use Rattle.rt_hub.specs.inside.Lined.{hub_of}

@@ -4,9 +4,9 @@ use Rattle.std.proofs.Common.{arith, drop, length, map, cond, Option, Some, None
 use Rattle.std.specs.Prelude.{◌==◌, if◌then◌else◌}
 use Rattle.std.specs.Option.{option_map}
 use Rattle.std.proofs.lemmas.Bool.Decides.{nat_tests}
-use Rattle.rt_hub.specs.declared.bounds.Bounds.{Bounds}
+use Rattle.rt_hub.specs.declared.refusal.Bounds.{Bounds}
 use Rattle.rt_hub.specs.Hubs.{left_line}
-use Rattle.rt_peer.specs.declared.sent.Sent.{Sent}
+use Rattle.rt_peer.specs.declared.pushes.Sent.{Sent}
 use Rattle.rt_hub.specs.Lines.{Line, bytes_for, bytes_in, bytes_in_all, is_full, line_of, over_line, text_of}
 use Rattle.rt_hub.specs.Lines.{texts_to, told_more, without_first}
 use Rattle.rt_hub.proofs.Bytes.{from}

@@ -20,10 +20,10 @@ use Rattle.rt_peer.specs.Calls.{Outcome, actions_of, one}
 use Rattle.rt_peer.specs.Lengths.{text_length}
 use Rattle.rt_peer.specs.Pushes.{seen, written}
 use Rattle.rt_peer.specs.Runs.{Call, Connect, Message, Disconnect, EndSome, outcome}
-use Rattle.rt_peer.specs.declared.sent.Sent.{Sent}
-use Rattle.rt_hub.specs.declared.bar.Bar.{Bar}
-use Rattle.rt_hub.specs.declared.bar.Bar.TheVariants.{TooMany, TooLong, Unsendable}
-use Rattle.rt_hub.specs.declared.bounds.TheConstants.{MAX_ACTIONS, MAX_LISTENS, MAX_TREE_BYTES}
+use Rattle.rt_peer.specs.declared.pushes.Sent.{Sent}
+use Rattle.rt_hub.specs.declared.door.Bar.{Bar}
+use Rattle.rt_hub.specs.declared.door.Bar.TheVariants.{TooMany, TooLong, Unsendable}
+use Rattle.rt_hub.specs.declared.refusal.TheConstants.{MAX_ACTIONS, MAX_LISTENS, MAX_TREE_BYTES}
 
 -- ---- trees that are too long
 

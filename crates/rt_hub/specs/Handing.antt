@@ -7,10 +7,10 @@ use Rattle.rt_hub.specs.Runs.{Asked, DoesAll, Next, OfPeer, given_all, watched_i
 use Rattle.rt_hub.specs.Doors.{Takes}
 use Rattle.rt_hub.specs.declared.door.Flushed.{Flushed}
 use Rattle.rt_hub.specs.declared.door.Flushed.TheVariants as Flush
-use Rattle.rt_hub.specs.declared.hand.Handed.{Handed}
-use Rattle.rt_hub.specs.declared.hand.Handed.TheVariants.{Drained, Blocked, More, Failed}
-use Rattle.rt_hub.specs.declared.hand.Passed.{Passed}
-use Rattle.rt_hub.specs.declared.hand.Passed.TheVariants as Pass
+use Rattle.rt_hub.specs.declared.turn.Handed.{Handed}
+use Rattle.rt_hub.specs.declared.turn.Handed.TheVariants.{Drained, Blocked, More, Failed}
+use Rattle.rt_hub.specs.declared.turn.Passed.{Passed}
+use Rattle.rt_hub.specs.declared.turn.Passed.TheVariants as Pass
 
 -- each of these asks for the oldest text that waits for the connection
 abbrev pub AreNexts : ℕ → List Asked → Type 0

@@ -1,18 +1,21 @@
 -- What a hub holds, and what each call leaves of it.
-use Rattle.std.specs.Prelude.{◌≡◌, ◌==◌, ◌+◌, ◌≤◌, ℕ, zero, suc, Bool, true, false, if◌then◌else◌, List, [], map}
-use Rattle.std.specs.Prelude.{Option, Some, None, Result, Ok, Err}
+use Rattle.std.specs.Prelude.{◌≡◌, ◌==◌, ◌+◌, ◌≤◌, ◌∷◌, ℕ, zero, suc, Bool, true, false, if◌then◌else◌, List, [], map}
+use Rattle.std.specs.Prelude.{Option, Some, None, Result, Ok, Err, String, string_bytes}
+use Rattle.std.specs.declared.alloc.Global.{Global}
 use Rattle.std.specs.List.{slice_get}
 use Rattle.std.specs.Option.{option_and_then, option_map, option_map_or}
+use Rattle.serde_json.specs.Written.{compact_text}
 use Rattle.rt_tree.specs.PathTree.{Path, PathTree}
+use Rattle.rt_wire.specs.ClientData.{listen_data}
 use Rattle.rt_wire.specs.declared.client.ClientMessage.{ClientMessage}
 use Rattle.rt_wire.specs.declared.error.WireError.{WireError}
-use Rattle.rt_peer.specs.Peers.{Peer, least_free, new_peer}
+use Rattle.rt_peer.specs.Peers.{Listen, Peer, least_free, listens_behind, new_peer}
 use Rattle.rt_peer.specs.Calls.{fault}
 use Rattle.rt_peer.specs.Runs.{Call, Connect, Message, Disconnect, EndSome}
 use Rattle.rt_peer.specs.Turns.{is_last_turn}
 use Rattle.rt_peer.specs.declared.error.PeerError.{PeerError}
-use Rattle.rt_peer.specs.declared.sent.Sent.{Sent}
-use Rattle.rt_hub.specs.declared.bounds.Bounds.{Bounds}
+use Rattle.rt_peer.specs.declared.pushes.Sent.{Sent}
+use Rattle.rt_hub.specs.declared.refusal.Bounds.{Bounds}
 use Rattle.rt_hub.specs.declared.hub.Taken.{Taken}
 use Rattle.rt_hub.specs.declared.hub.Taken.TheVariants.{Message as TookMessage, PassedOver}
 use Rattle.rt_hub.specs.Bounded.{bounded, has_too_many}
@@ -127,6 +130,23 @@ IsSlowest lines elsewhere n = (m : ℕ) → waits_for lines elsewhere m ≤ wait
 -- whether the connection has more listens than it may; a hub that has lacked memory says no
 abbrev pub has_too_many_in : Option Hub → ℕ → Bool
 has_too_many_in hub n = option_map_or (λ (h : Hub). has_too_many h.peer n) hub false
+
+-- ---- what one connection listens to
+
+-- the text of the message that asks for a listen
+abbrev pub listen_text : Listen → List ℕ
+listen_text l = compact_text (listen_data l.tag l.query)
+
+-- those of a connection's listens behind that tag, in the order of their tags; a hub that has lacked memory says none
+abbrev pub listen_texts : Option Hub → ℕ → Option ℕ → List (List ℕ)
+listen_texts hub n above =
+    option_map_or (λ (h : Hub). map listen_text (listens_behind n above h.peer.listens)) hub []
+
+-- the first one of them with its tag, if there is one
+abbrev pub IsNextListen : Option Hub → ℕ → Option ℕ → Option (ℕ × String Global) → Type 0
+IsNextListen hub n above None = listen_texts hub n above ≡ []
+IsNextListen hub n above (Some next) =
+    listen_texts hub n above ≡ string_bytes next.1 ∷ listen_texts hub n (Some next.0)
 
 -- ---- refusals
 

@@ -6,8 +6,8 @@ use Rattle.std.specs.Option.{option_and_then, option_map}
 use Rattle.serde_json.specs.Written.{compact_text}
 use Rattle.rt_wire.specs.ServerData.{server_data}
 use Rattle.rt_wire.specs.declared.server.ServerMessage.{ServerMessage}
-use Rattle.rt_peer.specs.declared.sent.Sent.{Sent}
-use Rattle.rt_hub.specs.declared.bounds.Bounds.{Bounds}
+use Rattle.rt_peer.specs.declared.pushes.Sent.{Sent}
+use Rattle.rt_hub.specs.declared.refusal.Bounds.{Bounds}
 
 -- the bytes of the texts that wait for a connection, oldest first, and whether more came where as much waited
 -- as may

@@ -3,7 +3,7 @@ use Rattle.std.specs.Prelude.{◌≡◌, ◌==◌, ℕ, Bool, true, not, if◌th
 use Rattle.std.specs.Prelude.{Option, Some, None, ⊤}
 use Rattle.rt_peer.specs.Peers.{Peer, least_free}
 use Rattle.rt_peer.specs.Runs.{Call, Connect, Message, Disconnect, EndSome}
-use Rattle.rt_hub.specs.declared.bounds.Bounds.{Bounds}
+use Rattle.rt_hub.specs.declared.refusal.Bounds.{Bounds}
 use Rattle.rt_hub.specs.Bounded.{bounded}
 use Rattle.rt_hub.specs.Hubs.{Hands, Hub, Makes, line_after}
 use Rattle.rt_hub.specs.Lines.{Line, line_of, texts_to, without_first}

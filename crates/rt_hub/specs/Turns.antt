@@ -11,17 +11,17 @@ use Rattle.rt_hub.specs.Bounded.{after_bounded, bounded, sent_bounded}
 use Rattle.rt_hub.specs.Hubs.{Hub, receivers}
 use Rattle.rt_hub.specs.Runs.{DoesAll, OfPeer}
 use Rattle.rt_hub.specs.Verdicts.{verdict_of}
-use Rattle.rt_hub.specs.declared.verdict.Verdict.{Verdict}
-use Rattle.rt_hub.specs.declared.verdict.Verdict.TheVariants as Is
-use Rattle.rt_hub.specs.declared.verdict.When.{When}
+use Rattle.rt_hub.specs.declared.refusal.Verdict.{Verdict}
+use Rattle.rt_hub.specs.declared.refusal.Verdict.TheVariants as Is
+use Rattle.rt_hub.specs.declared.refusal.When.{When}
 use Rattle.rt_hub.specs.Doors.{Gives}
 use Rattle.rt_hub.specs.Refusing.{given_answers}
 use Rattle.rt_hub.specs.declared.door.Heard.{Heard}
 use Rattle.rt_hub.specs.declared.door.Heard.TheVariants as Says
-use Rattle.rt_hub.specs.declared.notes.Accepted.{Accepted}
-use Rattle.rt_hub.specs.declared.notes.Notes.{Notes}
-use Rattle.rt_hub.specs.declared.take.Turn.{Turn}
-use Rattle.rt_hub.specs.declared.take.Turn.TheVariants.{Idle, More, Ended}
+use Rattle.rt_hub.specs.declared.hub.Accepted.{Accepted}
+use Rattle.rt_hub.specs.declared.hub.Notes.{Notes}
+use Rattle.rt_hub.specs.declared.turn.Turn.{Turn}
+use Rattle.rt_hub.specs.declared.turn.Turn.TheVariants.{Idle, More, Ended}
 
 -- ---- calls
 

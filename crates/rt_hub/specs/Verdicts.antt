@@ -8,11 +8,11 @@ use Rattle.rt_wire.specs.declared.client.ClientMessage.{ClientMessage}
 use Rattle.rt_wire.specs.declared.client.ClientMessage.TheVariants.{Hello, Listen, Unlisten, Ask}
 use Rattle.rt_wire.specs.declared.server.ServerMessage.{ServerMessage}
 use Rattle.rt_wire.specs.declared.server.ServerMessage.TheVariants as Says
-use Rattle.rt_peer.specs.declared.sent.Sent.{Sent}
-use Rattle.rt_hub.specs.declared.verdict.Verdict.{Verdict}
-use Rattle.rt_hub.specs.declared.verdict.Verdict.TheVariants.{Accepted, Refused, NoRequest}
-use Rattle.rt_hub.specs.declared.verdict.When.{When}
-use Rattle.rt_hub.specs.declared.verdict.When.TheVariants.{Now, AtEnd}
+use Rattle.rt_peer.specs.declared.pushes.Sent.{Sent}
+use Rattle.rt_hub.specs.declared.refusal.Verdict.{Verdict}
+use Rattle.rt_hub.specs.declared.refusal.Verdict.TheVariants.{Accepted, Refused, NoRequest}
+use Rattle.rt_hub.specs.declared.refusal.When.{When}
+use Rattle.rt_hub.specs.declared.refusal.When.TheVariants.{Now, AtEnd}
 
 -- when a message is done, where it is a request: a write at once, what is for the connection's end then
 abbrev pub when_asked : Asked → When

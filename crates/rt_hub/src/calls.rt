@@ -10,10 +10,9 @@ ghost use Rattle.rt_hub.specs.Lines.{line_of, texts_to, with_texts};
 ghost use Rattle.rt_hub.specs.Verdicts.{verdict_of, verdict_when};
 ghost use Rattle.rt_hub.specs.inside.Lined.{AreLinedOf, IsDone};
 
-use crate::bar::{Bar, bar_of, refusal};
-use crate::bounds::Bounds;
-use crate::verdict::{Verdict, When, verdict_when, when_in};
-use crate::waiting::Waiting;
+use crate::door::{Bar, bar_of, refusal};
+use crate::queue::Waiting;
+use crate::refusal::{Bounds, Verdict, When, verdict_when, when_in};
 use rt_peer::{Peer, Sent};
 use rt_wire::ClientMessage;
 use std::alloc::{AllocError, Global};

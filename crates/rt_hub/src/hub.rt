@@ -1,25 +1,31 @@
 // The hub.
 ghost use Rattle.std.specs.Prelude.{◌≡◌, ◌⊎◌, ◌↔◌, Some, None, Ok, Err, IfOk, IfErr, IfSome, OnOk, OnErr};
-ghost use Rattle.std.specs.Prelude.{false, string_bytes};
+ghost use Rattle.std.specs.Prelude.{false, string_bytes, ◌++◌, [], map};
 ghost use Rattle.std.specs.Option.{option_map, option_map_or};
 ghost use Rattle.std.specs.Result.{result_err};
+ghost use Rattle.serde_json.specs.Written.{compact_text};
 ghost use Rattle.rt_wire.specs.Client.{client_message};
+ghost use Rattle.rt_wire.specs.ClientData.{listen_data};
 ghost use Rattle.rt_peer.specs.Peers.{least_free};
 ghost use Rattle.rt_peer.specs.Runs.{Connect, Message, EndSome};
 ghost use Rattle.rt_peer.specs.Turns.{is_last_turn};
 ghost use Rattle.rt_hub.specs.Bounded.{bounded};
 ghost use Rattle.rt_hub.specs.Hubs.{IsHanded, IsMade, IsTaken, TakesText, first_of, line_in, new_hub};
-ghost use Rattle.rt_hub.specs.Hubs.{IsSlowest, has_too_many_in, receivers, refused_as, waits_in};
+ghost use Rattle.rt_hub.specs.Hubs.{IsNextListen, IsSlowest, has_too_many_in, receivers, refused_as};
+ghost use Rattle.rt_hub.specs.Hubs.{waits_in};
 ghost use Rattle.rt_hub.specs.Verdicts.{verdict_of};
+ghost use Rattle.rt_hub.specs.declared.hub.TheConstants.{TURN_ACTIONS};
+ghost use Rattle.rt_hub.specs.laws.Queues.{IsServedAll, SeesItsOwn};
+ghost use Rattle.rt_hub.specs.laws.Verdicts.{RefusedChangesNothing, RequestsAreJudged};
 
-use crate::bounds::{Bounds, MAX_LISTENS};
 use crate::calls::{answer, begin, end_some};
-use crate::verdict::Verdict;
-use crate::waiting::Waiting;
+use crate::queue::Waiting;
+use crate::refusal::{Bounds, MAX_LISTENS, Verdict, When};
 use rt_peer::{Peer, PeerError};
+use rt_query::Query;
 use rt_tree::{Path, Tree};
 use rt_wire::{ClientMessage, WireError};
-use std::alloc::Global;
+use std::alloc::{AllocError, Global};
 use std::marker::Model;
 
 /// What came of a text.
@@ -30,6 +36,15 @@ pub enum Taken {
     Message(Verdict, Vec<u64>),
     /// It is no message of a client, and why.
     PassedOver(WireError),
+}
+
+// The text of the message that asks for a listen.
+fn listen_text(alloc: Global, tag: u64, query: &Query) -> Result<String, AllocError>
+    ensures { IfOk result (λ text. string_bytes text ≡ compact_text (listen_data tag query.now)) }
+{
+    let query = query.copy()?;
+    let message = ClientMessage::Listen { tag, query };
+    message.text(alloc)
 }
 
 /// A peer, and for each of its connections the texts that wait for it.
@@ -245,6 +260,34 @@ impl Hub {
         !self.has_failed && self.peer.held(connection).listens > MAX_LISTENS
     }
 
+    /// The connection's listen with the least tag above that one, or with the least tag of all: its tag, and the
+    /// text of the message that asks for it. None where there is no such listen, or the hub has lacked memory.
+    ///
+    /// Costs by a logarithm, and by the query.
+    ///
+    /// # Errors
+    ///
+    /// A want of memory, which changes nothing.
+    #[tactic(auto, using(crate::proofs::Listened::next_there, crate::proofs::Listened::none_there))]
+    pub fn next_listen(
+        &self,
+        connection: u64,
+        above: Option<u64>,
+    ) -> Result<Option<(u64, String)>, AllocError>
+        ensures { IfOk result (λ next. IsNextListen self.now connection above next) }
+    {
+        if self.has_failed {
+            return Ok(None);
+        }
+        match self.peer.next_listen(connection, above) {
+            Some((tag, query)) => {
+                let text = listen_text(self.alloc, tag, query)?;
+                Ok(Some((tag, text)))
+            }
+            None => Ok(None),
+        }
+    }
+
     /// A turn of the connection's end: what waits for it goes, nothing more is sent to it, and the first of
     /// what it asked for at its end is run, so many requests at most. Answers to whom something was sent, and
     /// whether it was the last turn: the number is free then. Until then this is called again; others may be
@@ -284,3 +327,103 @@ impl Hub {
         }
     }
 }
+
+// ---- a connection ends, in turns
+
+/// How many requests of those that are done at the end of a connection are done in one turn.
+pub const TURN_ACTIONS: usize = 256;
+
+/// A turn of the connection's end: notes to whom something is sent then, in order, and answers whether it was
+/// the last turn. Until then it is called again; others may have their turns before.
+///
+/// # Errors
+///
+/// `Failed` where the hub has lacked memory before; then `UnknownConnection`; else `NoMemory`.
+pub fn leave(hub: &mut Hub, connection: u64, told: &mut Vec<u64>) -> Result<bool, PeerError>
+    ensures made { OnOk result (IsMade hub.old (EndSome connection TURN_ACTIONS) hub.new) }
+    ensures told { OnOk result (IfSome hub.old (λ h. told.new.items
+        ≡ told.old.items ++ receivers (bounded h.peer (EndSome connection TURN_ACTIONS)).1)) }
+    ensures last { IfOk result (λ last. IfSome hub.old (λ h.
+        last ≡ is_last_turn h.peer connection TURN_ACTIONS)) }
+    ensures fault { IfErr result (λ e. (refused_as hub.old connection ≡ Some e)
+        ⊎ (e ≡ PeerError.NoMemory)) }
+{
+    let (receivers, is_last) = hub.end_some(connection, TURN_ACTIONS)?;
+    match told.extend_from_slice(receivers.as_slice()) {
+        Ok(()) => Ok(is_last),
+        Err(_) => Err(PeerError::NoMemory),
+    }
+}
+
+// ---- what turns leave to be done
+
+/// A request that was accepted.
+pub struct Accepted {
+    /// When it is done.
+    pub when: When,
+    /// Its text, as it came.
+    pub text: String,
+}
+
+impl Drop for Accepted {
+    fn drop(self) {
+        let Accepted { when: _, text: _ } = self;
+    }
+}
+
+/// What turns leave to be done, each in the order in which it came.
+pub struct Notes {
+    /// The connections to which something was sent, each as often as that.
+    pub told: Vec<u64>,
+    /// What a connection is answered for requests that can't be taken.
+    pub answers: Vec<String>,
+    /// Its requests that were accepted.
+    pub accepted: Vec<Accepted>,
+}
+
+impl Drop for Notes {
+    fn drop(self) {
+        let Notes {
+            told: _,
+            answers: _,
+            accepted: _,
+        } = self;
+    }
+}
+
+impl Notes {
+    /// Nothing is to be done. Takes no memory.
+    pub fn new(alloc: Global) -> Notes
+        ensures told { result.told.items ≡ [] }
+        ensures answers { result.answers.items ≡ [] }
+        ensures accepted { result.accepted.items ≡ [] }
+    {
+        Notes {
+            told: Vec::new(alloc),
+            answers: Vec::new(alloc),
+            accepted: Vec::new(alloc),
+        }
+    }
+}
+
+// ---- the laws of the hub
+
+/// Of any calls, each connection sees the peer, its own line, and nothing else of the hub; and what a
+/// connection was given begins what waited at first and all that the peer sent it since, in order, as long
+/// as it lasts. Where its line isn't over, what still waits is the rest: nothing is lost, and nothing told
+/// twice.
+#[tactic(auto, using(crate::proofs::Served::laws))]
+pub fn queue_law()
+    ensures sees { SeesItsOwn }
+    ensures served { IsServedAll }
+{}
+
+/// Of a known connection just the requests have a verdict: a write and what is to be done at the end are
+/// refused where their entries are, and what is to be dropped where its path is denied. What is to be done at
+/// the end is refused too where the connection has as much of that as it may, and a write where it would make
+/// the tree too long. What is refused changes nothing.
+#[tactic(auto, using(crate::proofs::Judged::laws))]
+pub fn verdict_law()
+    ensures judged { RequestsAreJudged }
+    ensures unchanged { RefusedChangesNothing }
+{}

@@ -31,35 +31,21 @@
 //! A contract sees a hub as what it holds (`specs/Hubs.antt`), none once it has lacked memory.
 #![tactic(auto)]
 
-mod bar;
-mod bounds;
 mod calls;
 mod door;
 mod examples;
-mod growth;
-mod hand;
 mod hub;
-mod laws;
-mod leaving;
-mod line;
 mod lines;
-mod notes;
+mod log;
+mod queue;
 mod refusal;
-mod take;
-mod telling;
-mod verdict;
-mod waiting;
+mod turn;
 
-pub use bounds::{
-    Bounds, MAX_ACTIONS, MAX_LISTENS, MAX_TREE_BYTES, MAX_WAITING_BYTES, MAX_WAITING_IN_ALL,
-    MAX_WAITING_MESSAGES,
-};
 pub use door::{Door, Flushed, Heard};
 pub use examples::{line_examples, others_are_not_answered, refusals_say_why};
-pub use hand::{Handed, ROUNDS, hand_over};
-pub use hub::{Hub, Taken};
-pub use laws::{queue_law, verdict_law};
-pub use leaving::{TURN_ACTIONS, leave};
-pub use notes::{Accepted, Notes};
-pub use take::{Turn, take_turn};
-pub use verdict::{Verdict, When};
+pub use hub::{Accepted, Hub, Notes, TURN_ACTIONS, Taken, leave, queue_law, verdict_law};
+pub use refusal::{
+    Bounds, MAX_ACTIONS, MAX_LISTENS, MAX_TREE_BYTES, MAX_WAITING_BYTES, MAX_WAITING_IN_ALL,
+    MAX_WAITING_MESSAGES, Verdict, When,
+};
+pub use turn::{Handed, ROUNDS, Turn, hand_over, take_turn};

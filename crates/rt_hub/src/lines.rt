@@ -1,16 +1,21 @@
 // The lines of connections, by their numbers.
-ghost use Rattle.std.specs.Prelude.{◌≡◌, ◌+◌, ◌<◌, ◌≤◌, ◌==◌, ◌∷◌, [], ℕ, false, is_some, length, string_bytes};
-ghost use Rattle.std.specs.Prelude.{if◌then◌else◌, Some, None, IfSome, OnOk};
-ghost use Rattle.std.specs.List.{fold};
+ghost use Rattle.std.specs.Prelude.{◌≡◌, ◌+◌, ◌<◌, ◌≤◌, ◌==◌, ◌∷◌, [], ℕ, false, is_some, length};
+ghost use Rattle.std.specs.Prelude.{string_bytes, if◌then◌else◌, Some, None, IfSome, OnOk, drop, IfOk};
+ghost use Rattle.std.specs.List.{fold, slice_get};
 ghost use Rattle.std.specs.Option.{option_map, option_map_or};
 ghost use Rattle.rt_hub.specs.Hubs.{IsSlowest, count_of, first_of, left_line, waits_for};
 ghost use Rattle.rt_hub.specs.Lines.{bytes_for, empty_line, line_of, texts_to, told_more, with_text};
-ghost use Rattle.rt_hub.specs.Lines.{without_first};
+ghost use Rattle.rt_hub.specs.Lines.{without_first, bytes_in, over_line, text_of};
+ghost use Rattle.rt_wire.specs.Actions.{entries_of};
+ghost use Rattle.rt_hub.specs.Bounded.{grows_too_long, shows_too_long};
 
-use crate::bounds::Bounds;
-use crate::line::Line;
-use rt_peer::Sent;
+use crate::refusal::{Bounds, MAX_TREE_BYTES};
+use rt_peer::{Peer, Sent};
+use rt_query::Query;
+use rt_wire::{Action, ServerMessage, some_stands_too_deep};
 use std::alloc::{AllocError, Global};
+use std::collections::VecDeque;
+use std::marker::Model;
 
 // The lines by number, from 1; none where there is no such connection.
 pub(crate) type Lines = Vec<Option<Line>>;
@@ -184,4 +189,137 @@ pub(crate) fn put_one(lines: &mut Lines, alloc: Global, one: &Sent) -> Result<()
         Some(line) => line.put(alloc, &one.message),
         None => Ok(()),
     }
+}
+
+// ---- what waits for one connection
+
+// The texts that wait, oldest first, how many bytes they have, and whether more came where as much waited as
+// may.
+pub(crate) struct Line {
+    waiting: VecDeque<String>,
+    bytes: usize,
+    is_over: bool,
+}
+
+impl Drop for Line {
+    fn drop(self) {
+        let Line {
+            waiting: _,
+            bytes: _,
+            is_over: _,
+        } = self;
+    }
+}
+
+impl Model for Line {
+    ghost use Rattle.std.specs.Prelude.{◌≡◌, map, string_bytes};
+    ghost use Rattle.rt_hub.specs.Lines.{Line, bytes_in};
+
+    ghost Value = { Line };
+
+    ghost view = { λ a. record { waiting = map string_bytes a.waiting.items; is_over = a.is_over } };
+
+    ghost invariant = { λ a. a.bytes ≡ bytes_in (map string_bytes a.waiting.items) };
+}
+
+impl Line {
+    pub(crate) fn new(alloc: Global) -> Line
+        ensures { result ≡ empty_line }
+    {
+        Line {
+            waiting: VecDeque::new(alloc),
+            bytes: 0,
+            is_over: false,
+        }
+    }
+
+    // A line to which more came where as much waited as may.
+    fn over(alloc: Global) -> Line
+        ensures { result ≡ over_line }
+    {
+        Line {
+            waiting: VecDeque::new(alloc),
+            bytes: 0,
+            is_over: true,
+        }
+    }
+
+    // How many bytes wait.
+    pub(crate) fn bytes(&self) -> usize
+        ensures { result ≡ bytes_in self.now.waiting }
+    {
+        self.bytes
+    }
+
+    pub(crate) fn is_over(&self) -> bool
+        ensures { result ≡ self.now.is_over }
+    {
+        self.is_over
+    }
+
+    // Texts are to come: where as much waits as may, the line is over.
+    pub(crate) fn check(&mut self, alloc: Global, bounds: Bounds)
+        ensures { self.new ≡ told_more bounds self.old }
+    {
+        if self.waiting.len() >= bounds.messages || self.bytes >= bounds.bytes {
+            *self = Line::over(alloc);
+        }
+    }
+
+    // Puts the text of a message behind those that wait. Where the line is over, none does.
+    pub(crate) fn put(&mut self, alloc: Global, message: &ServerMessage) -> Result<(), AllocError>
+        ensures { OnOk result (self.new ≡ with_text self.old (text_of message.now)) }
+    {
+        if self.is_over {
+            return Ok(());
+        }
+        let text = message.text(alloc)?;
+        let Some(bytes) = self.bytes.checked_add(text.len()) else {
+            return Err(AllocError);
+        };
+        self.waiting.push_back(text)?;
+        self.bytes = bytes;
+        Ok(())
+    }
+
+    // The oldest text.
+    pub(crate) fn next(&mut self) -> Option<String>
+        ensures first { option_map string_bytes result ≡ slice_get self.old.waiting 0 }
+        ensures rest { self.new ≡ record (self.old) { waiting = drop 1 self.old.waiting } }
+    {
+        let text = self.waiting.pop_front()?;
+        self.bytes -= text.len();
+        Some(text)
+    }
+}
+
+// ---- trees that are longer than one that is sent
+
+// Whether the action makes the tree too long. Costs by what it writes, and by what stands there.
+pub(crate) fn grows_too_long(
+    alloc: Global,
+    peer: &Peer,
+    action: &Action,
+) -> Result<bool, AllocError>
+    ensures { IfOk result (λ answer. IfSome peer.now (λ p.
+        answer ≡ grows_too_long p.tree (entries_of action.now))) }
+{
+    let entries = action.entries(alloc)?;
+    if some_stands_too_deep(&entries) {
+        return Ok(false);
+    }
+    let len = peer.text_len_with(entries.as_slice())?;
+    Ok(len > MAX_TREE_BYTES)
+}
+
+// Whether the query shows a tree that is too long. Takes no time where the whole tree is not.
+pub(crate) fn shows_too_long(peer: &Peer, query: &Query) -> Result<bool, AllocError>
+    ensures { IfOk result (λ answer. IfSome peer.now (λ p.
+        answer ≡ shows_too_long p.tree query.now)) }
+{
+    if peer.text_len() <= MAX_TREE_BYTES {
+        return Ok(false);
+    }
+    let shown = peer.seen_len(query)?;
+    Ok(shown > MAX_TREE_BYTES)
 }

@@ -9,13 +9,15 @@ ghost use Rattle.rt_wire.specs.Fields.{field, number_of};
 ghost use Rattle.rt_wire.specs.declared.server.ServerMessage.TheVariants.{Refused};
 ghost use Rattle.rt_hub.specs.Lines.{text_of};
 ghost use Rattle.rt_hub.specs.Refusing.{asks_of, asked_answer, at, entries_wrong, fault_in, has_none};
-ghost use Rattle.rt_hub.specs.Refusing.{members_wrong, names_wrong, path_wrong, place_words};
-ghost use Rattle.rt_hub.specs.Refusing.{reason_words, refusal_in, refusal_of, text_wrong};
-ghost use Rattle.rt_hub.specs.Refusing.{tree_wrong, trees_wrong, unfit_words, value_wrong};
-ghost use Rattle.rt_hub.specs.Refusing.{wrong_words};
+ghost use Rattle.rt_hub.specs.Refusing.{members_wrong, names_wrong, path_wrong, place_words, reason_words};
+ghost use Rattle.rt_hub.specs.Refusing.{refusal_in, refusal_of, text_wrong, tree_wrong, trees_wrong};
+ghost use Rattle.rt_hub.specs.Refusing.{unfit_words, value_wrong, wrong_words};
+ghost use Rattle.rt_hub.specs.Verdicts.{is_ok, says_ok, verdict_when, when_asked, when_in};
+ghost use Rattle.rt_hub.specs.declared.refusal.TheConstants.{MAX_WAITING_BYTES, MAX_WAITING_MESSAGES};
 
+use rt_peer::Sent;
 use rt_tree::{Path, Tree, TreeError};
-use rt_wire::{MAX_NUMBER, Reason, ServerMessage};
+use rt_wire::{Asked, ClientMessage, MAX_NUMBER, Reason, ServerMessage};
 use serde_json::Value;
 use std::alloc::{AllocError, Global};
 use std::collections::BTreeMap;
@@ -343,5 +345,127 @@ pub(crate) fn refusal_of(alloc: Global, text: &str) -> Result<Option<String>, Al
         Ok(message) => refusal_in(alloc, &message),
         Err(error) if error.is_memory() => Err(AllocError),
         Err(_) => Ok(None),
+    }
+}
+
+// ---- what became of a request
+
+/// When a request is done.
+#[derive(Clone, Copy, Debug)]
+pub enum When {
+    /// At once: it is a write.
+    Now,
+    /// At the end of the connection, or it drops what was to be done then.
+    AtEnd,
+}
+
+/// What became of a message, where it is a request.
+#[derive(Clone, Copy, Debug)]
+pub enum Verdict {
+    /// It is a request, and is answered `ok`.
+    Accepted(When),
+    /// It is a request, and is answered `no`: it changes nothing.
+    Refused,
+    /// It is no request.
+    NoRequest,
+}
+
+// When what is asked for is done.
+fn when_asked(asked: &Asked) -> When
+    ensures { result ≡ when_asked asked.now }
+{
+    match asked {
+        Asked::Now(_) => When::Now,
+        Asked::AtDisconnect(_) => When::AtEnd,
+    }
+}
+
+// When a message is done, where it is a request.
+pub(crate) fn when_in(message: &ClientMessage) -> Option<When>
+    ensures { result ≡ when_in message.now }
+{
+    match message {
+        ClientMessage::Ask { id: _, asked } => Some(when_asked(asked)),
+        ClientMessage::Hello { .. }
+        | ClientMessage::Listen { .. }
+        | ClientMessage::Unlisten { .. } => None,
+    }
+}
+
+// Whether a message of the server accepts a request.
+fn is_ok(message: &ServerMessage) -> bool
+    ensures { result ≡ is_ok message.now }
+{
+    match message {
+        ServerMessage::Accepted { .. } => true,
+        ServerMessage::Data { .. }
+        | ServerMessage::DataMerge { .. }
+        | ServerMessage::Push { .. }
+        | ServerMessage::Refused { .. }
+        | ServerMessage::Revoked { .. } => false,
+    }
+}
+
+// Whether what is sent for a request accepts it: it is answered last.
+fn says_ok(sent: &[Sent]) -> bool
+    ensures { result ≡ says_ok sent.now }
+{
+    match sent.last() {
+        Some(last) => is_ok(&last.message),
+        None => false,
+    }
+}
+
+// What became of a request that is done then, by what is sent for it; none: it is no request.
+pub(crate) fn verdict_when(when: Option<When>, sent: &[Sent]) -> Verdict
+    ensures { result ≡ verdict_when when sent.now }
+{
+    match when {
+        None => Verdict::NoRequest,
+        Some(when) if says_ok(sent) => Verdict::Accepted(when),
+        Some(_) => Verdict::Refused,
+    }
+}
+
+// ---- how much a connection may have, and how much may wait for it
+
+/// How many messages may wait for a connection.
+pub const MAX_WAITING_MESSAGES: usize = 10_000;
+
+/// How many bytes the texts may have that wait for a connection.
+pub const MAX_WAITING_BYTES: usize = 16_777_216;
+
+/// How many bytes may wait for all connections together, also of texts that were taken and not yet sent.
+pub const MAX_WAITING_IN_ALL: usize = 134_217_728;
+
+/// How many bytes the text of a tree may have that is sent: a write that makes the tree longer is refused, and a
+/// listen that shows a longer one is revoked.
+pub const MAX_TREE_BYTES: usize = 67_108_864;
+
+/// How many listens a connection may have: one with more is to be ended.
+pub const MAX_LISTENS: usize = 131_072;
+
+/// How many requests a connection may have that are done at its end: one more is refused.
+pub const MAX_ACTIONS: usize = 131_072;
+
+/// How much may wait for a connection.
+#[derive(Clone, Copy, Debug, PartialEq, Eq)]
+pub struct Bounds {
+    /// How many messages.
+    pub messages: usize,
+    /// How many bytes all of them together.
+    pub bytes: usize,
+}
+
+impl Bounds {
+    /// As much as may wait where nothing else is asked for.
+    pub fn full() -> Bounds
+        ensures messages { result.messages ≡ MAX_WAITING_MESSAGES }
+        ensures bytes { result.bytes ≡ MAX_WAITING_BYTES }
+    {
+        Bounds {
+            messages: MAX_WAITING_MESSAGES,
+            bytes: MAX_WAITING_BYTES,
+        }
     }
 }

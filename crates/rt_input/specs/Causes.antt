@@ -1,6 +1,6 @@
 -- Which error a fault with its cause is.
-use Rattle.rt_input.specs.declared.error.ConsoleError.{ConsoleError}
-use Rattle.rt_input.specs.declared.error.ConsoleError.TheVariants as Error
+use Rattle.rt_input.specs.declared.fault.ConsoleError.{ConsoleError}
+use Rattle.rt_input.specs.declared.fault.ConsoleError.TheVariants as Error
 use Rattle.rt_input.specs.declared.fault.Fault.{Fault}
 use Rattle.rt_input.specs.declared.fault.Fault.TheVariants.{Unread, TooLong, Unwritten, BadWords, NoMemory}
 

@@ -1,8 +1,8 @@
 -- The number and the name of each error.
 use Rattle.std.specs.Prelude.{ℕ, List, codes}
-use Rattle.rt_input.specs.declared.error.ConsoleError.{ConsoleError}
-use Rattle.rt_input.specs.declared.error.ConsoleError.TheVariants.{ReadFault, WriteFault}
-use Rattle.rt_input.specs.declared.error.ConsoleError.TheVariants.{BadWords, NoMemory}
+use Rattle.rt_input.specs.declared.fault.ConsoleError.{ConsoleError}
+use Rattle.rt_input.specs.declared.fault.ConsoleError.TheVariants.{ReadFault, WriteFault}
+use Rattle.rt_input.specs.declared.fault.ConsoleError.TheVariants.{BadWords, NoMemory}
 
 -- the number of an error
 abbrev pub code_of : ConsoleError → ℕ

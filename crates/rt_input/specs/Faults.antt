@@ -1,8 +1,8 @@
 -- When a run ends by a fault of its reader or its writer.
 use Rattle.std.specs.Prelude.{◌≡◌, ℕ, ◌+◌, ◌<◌, ◌⊎◌}
-use Rattle.rt_input.specs.declared.error.ConsoleError.{ConsoleError}
-use Rattle.rt_input.specs.declared.error.ConsoleError.TheVariants.{ReadFault, WriteFault}
-use Rattle.rt_input.specs.declared.error.ConsoleError.TheVariants.{BadWords, NoMemory}
+use Rattle.rt_input.specs.declared.fault.ConsoleError.{ConsoleError}
+use Rattle.rt_input.specs.declared.fault.ConsoleError.TheVariants.{ReadFault, WriteFault}
+use Rattle.rt_input.specs.declared.fault.ConsoleError.TheVariants.{BadWords, NoMemory}
 use Rattle.rt_input.specs.Lines.{most_input}
 
 -- what a reader and a writer count: the bytes that were given, and the failures of each

@@ -2,9 +2,9 @@
 use Rattle.std.specs.Prelude.{◌≡◌, ◌==◌, ◌⊎◌, ◌<◌, ◌+◌, ◌-◌, ℕ, Bool, false, if◌then◌else◌}
 use Rattle.std.specs.Prelude.{List, [], ◌∷◌, ◌++◌, length, Option, Some}
 use Rattle.std.specs.List.{slice_split}
-use Rattle.rt_input.specs.declared.error.ConsoleError.{ConsoleError}
-use Rattle.rt_input.specs.declared.error.ConsoleError.TheVariants.{ReadFault, WriteFault}
-use Rattle.rt_input.specs.declared.error.ConsoleError.TheVariants.{BadWords, NoMemory}
+use Rattle.rt_input.specs.declared.fault.ConsoleError.{ConsoleError}
+use Rattle.rt_input.specs.declared.fault.ConsoleError.TheVariants.{ReadFault, WriteFault}
+use Rattle.rt_input.specs.declared.fault.ConsoleError.TheVariants.{BadWords, NoMemory}
 
 -- the most bytes of input that are taken
 abbrev pub most_input : ℕ

@@ -10,22 +10,14 @@
 //! ```
 #![tactic(auto)]
 
-mod counted;
-mod error;
 mod fault;
-mod laws;
 mod lines;
 mod log;
-mod plain;
-mod printed;
 mod stream;
+mod text;
 
-pub use counted::{Counted, MAX_MESSAGE_BYTES};
-pub use error::ConsoleError;
-pub use fault::Fault;
-pub use laws::plain_examples;
+pub use fault::{ConsoleError, Fault};
 pub use lines::{LineReader, MOST_INPUT};
 pub use log::{LOG_PREFIX, Log, Silent, Telling};
-pub use plain::push_plain;
-pub use printed::write_printed;
-pub use stream::{Drain, Failed, Reading, Source, Writing};
+pub use stream::{Counted, Drain, Failed, MAX_MESSAGE_BYTES, Reading, Source, Writing};
+pub use text::{plain_examples, push_plain, write_printed};

@@ -6,7 +6,7 @@ ghost use Rattle.std.specs.Prelude.{IfOk, IfErr, OnOk, OnErr};
 ghost use Rattle.std.specs.Io.KnownBytes.{Consumes, IsAtEnd};
 ghost use Rattle.rt_input.specs.Lines.{Gives, most_input, most_lines, new_lines, resumed_by, TellsOfReads};
 
-use crate::error::ConsoleError;
+use crate::fault::ConsoleError;
 use crate::stream::Source;
 use std::alloc::{AllocError, Global};
 use std::marker::Model;

@@ -11,8 +11,8 @@ use Rattle.std.proofs.lemmas.List.{length-drop}
 use Rattle.std.proofs.lemmas.List.Quantifiers.{position-Some}
 use Rattle.std.proofs.lemmas.List.Splits.{slice_split_first}
 use Rattle.std.proofs.Math.Seq.{take-length}
-use Rattle.rt_journal.specs.declared.entry.LineFault.{LineFault}
-use Rattle.rt_journal.specs.declared.entry.LineFault.TheVariants.{BadLine, NoMemory}
+use Rattle.rt_journal.specs.declared.line.LineFault.{LineFault}
+use Rattle.rt_journal.specs.declared.line.LineFault.TheVariants.{BadLine, NoMemory}
 use Rattle.rt_journal.specs.Entries.{is_feed, pieces_of}
 use Rattle.rt_journal.specs.Replays.{Replay, after_line, after_pieces, torn_length}
 use Rattle.rt_journal.proofs.Written.{some_piece}

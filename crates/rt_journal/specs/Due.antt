@@ -1,7 +1,7 @@
 -- When a tree's file is made anew.
 use Rattle.std.specs.Prelude.{ℕ, ◌+◌, ◌-◌, ◌/◌, ◌^◌, ◌&&◌, not, nat_le, min, max, if◌then◌else◌}
 use Rattle.std.specs.Prelude.{Bool, Option, Some, None}
-use Rattle.rt_journal.specs.declared.due.TheConstants.{BYTES_A_MS, LEAST_PAUSE_MS, POLL_MS}
+use Rattle.rt_journal.specs.declared.file.TheConstants.{BYTES_A_MS, LEAST_PAUSE_MS, POLL_MS}
 
 -- when a file is made anew next that was made at that time, in milliseconds, and has so many bytes
 abbrev pub due_after : ℕ → ℕ → ℕ

@@ -2,8 +2,8 @@
 use Rattle.std.specs.Prelude.{◌≡◌, ℕ, List, [], ◌∷◌, ◌++◌, Bool, true, codes}
 use Rattle.rt_journal.specs.Books.{Book}
 use Rattle.rt_journal.specs.Due.{Standing}
-use Rattle.rt_journal.specs.declared.notice.Notice.{Notice}
-use Rattle.rt_journal.specs.declared.notice.Notice.TheVariants.{TornLine, Foreign, NotMade}
+use Rattle.rt_journal.specs.declared.fault.Notice.{Notice}
+use Rattle.rt_journal.specs.declared.fault.Notice.TheVariants.{TornLine, Foreign, NotMade}
 
 -- the names of a tree's file, of its journal, and of where the tree goes if another program changed the file
 pub record Names : Type 0 where

@@ -6,39 +6,34 @@ ghost use Rattle.rt_tree.specs.PathTree.{is_null};
 ghost use Rattle.rt_journal.specs.Books.{is_resting, new_book, with_end, with_request, with_turn};
 ghost use Rattle.rt_journal.specs.Due.{due_after, is_due, next_at, postponed};
 ghost use Rattle.rt_journal.specs.Journals.{KeepsNotes, appended, notice_text};
-ghost use Rattle.rt_journal.specs.declared.notice.Notice.TheVariants.{TornLine};
+ghost use Rattle.rt_journal.specs.declared.fault.Notice.TheVariants.{TornLine};
 ghost use Rattle.rt_journal.specs.inside.Places.{names_in};
 
 use crate::book::{Book, Noted};
-use crate::due::{POLL_MS, due_after};
-use crate::entry::LineFault;
-use crate::fault::JournalFault;
-use crate::lock::{is_locked, locked};
-use crate::making::{Gone, Making, write_tree};
-use crate::notice::{Notice, line_of};
+use crate::fault::{JournalFault, Notice, line_of};
+use crate::file::{Gone, Making, POLL_MS, due_after, read_whole, write_tree};
+use crate::line::LineFault;
 use crate::place::{
-    Place, made_beside, may_make, metadata_at, plain_at, resolved, sync_folder, take_leavings,
+    FileStamp, Place, is_locked, locked, made_beside, may_make, metadata_at, plain_at, resolved,
+    stamp_at, sync_folder, take_leavings,
 };
 use crate::replay::{Replayed, replay_over};
-use crate::stamp::{Stamp, stamp_at};
 use crate::trouble::trouble_in;
-use crate::whole::read_whole;
 use rt_tree::Tree;
 use std::alloc::{AllocError, AllocGlobal, Global};
-use std::fs::{File, Metadata};
-use std::io::{ErrorKind, Read, Write};
+use std::fs::{self, File, Metadata};
+use std::io::{self, ErrorKind, Read, Write};
 use std::marker::Model;
 use std::os::unix::fs::MetadataExt;
 use std::random::RandomSource;
 use std::rt::Files;
 use std::thread::Threads;
-use std::{fs, io};
 
 // What the numbers of a journal are.
 #[derive(Clone, Copy)]
 struct Standing {
     // What the file was when it was read or made; none where there was none.
-    stamp: Option<Stamp>,
+    stamp: Option<FileStamp>,
     // When the file is made anew next, where the tree is not the file's, in milliseconds.
     due_at: u64,
     // Whether each line is on the disk before anybody hears of it.
@@ -201,7 +196,7 @@ fn text_of<Y: Files<File = File>>(
     system: &Y,
     alloc: Global,
     file: &str,
-) -> io::Result<Option<(String, Stamp)>> {
+) -> io::Result<Option<(String, FileStamp)>> {
     let Some(there) = metadata_at(system, file)? else {
         return Ok(None);
     };
@@ -209,7 +204,7 @@ fn text_of<Y: Files<File = File>>(
         return Err(io::Error::new(ErrorKind::InvalidInput, "it is no plain file"));
     }
     let open = File::open(system, file)?;
-    let stamp = Stamp::of(&open.metadata()?);
+    let stamp = FileStamp::of(&open.metadata()?);
     let text = io::read_to_string(alloc, open)?;
     Ok(Some((text, stamp)))
 }
@@ -246,7 +241,7 @@ fn read_file<Y: Files<File = File>>(
     alloc: Global,
     file: &str,
     first: Tree,
-) -> Result<(Tree, Option<Stamp>), JournalFault> {
+) -> Result<(Tree, Option<FileStamp>), JournalFault> {
     match text_of(system, alloc, file) {
         Ok(Some((text, stamp))) => Ok((tree_of(alloc, file, text.as_str())?, Some(stamp))),
         Ok(None) => Ok((first, None)),
@@ -299,7 +294,7 @@ fn read_all<Y: Files<File = File> + RandomSource + AllocGlobal>(
     place: &Place,
     log: &mut File,
     first: Tree,
-) -> Result<(Replayed, Option<Stamp>, u64), JournalFault> {
+) -> Result<(Replayed, Option<FileStamp>, u64), JournalFault> {
     prepare(system, alloc, place.file.as_str())?;
     let (tree, stamp) = read_file(system, alloc, place.file.as_str(), first)?;
     let (replayed, length) = replay_log(alloc, log, place.log.as_str(), tree)?;
@@ -307,7 +302,7 @@ fn read_all<Y: Files<File = File> + RandomSource + AllocGlobal>(
 }
 
 // What the numbers of a journal are that was opened: so many bytes of it stand in whole lines.
-fn standing_of(stamp: Option<Stamp>, length: u64, is_synced: bool, tree: &Tree) -> Standing
+fn standing_of(stamp: Option<FileStamp>, length: u64, is_synced: bool, tree: &Tree) -> Standing
     ensures { result ≡ record {
       stamp = stamp;
       due_at = option_map_or (λ s. due_after 0 s.length) stamp 0;

@@ -16,29 +16,18 @@
 #![tactic(auto)]
 
 mod book;
-mod crossing;
-mod due;
-mod entry;
 mod fault;
+mod file;
 mod journal;
-mod laws;
 mod line;
-mod lock;
-mod making;
-mod notice;
 mod place;
 mod replay;
-mod stamp;
 mod trouble;
-mod whole;
 
 pub use book::Noted;
-pub use crossing::crossing_law;
-pub use due::{BYTES_A_MS, LEAST_PAUSE_MS};
-pub use entry::LineFault;
-pub use fault::JournalFault;
+pub use fault::{JournalFault, Notice};
+pub use file::{BYTES_A_MS, LEAST_PAUSE_MS, crossing_law};
 pub use journal::{Journal, Opened, tree_in};
-pub use laws::reading_law;
-pub use notice::Notice;
-pub use replay::{Replayed, replay_over};
+pub use line::LineFault;
+pub use replay::{Replayed, reading_law, replay_over};
 pub use trouble::Trouble;

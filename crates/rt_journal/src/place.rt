@@ -4,14 +4,13 @@ ghost use Rattle.rt_journal.specs.Journals.{names_of};
 ghost use Rattle.rt_journal.specs.inside.Places.{names_in};
 
 use std::alloc::{AllocError, AllocGlobal, Global};
-use std::fs::{File, Metadata, OpenOptions, Permissions};
-use std::io::ErrorKind;
+use std::fs::{self, File, Metadata, OpenOptions, Permissions, TryLockError};
+use std::io::{self, ErrorKind};
 use std::os::fd::AsFd;
 use std::os::unix::fs::{MetadataExt, OpenOptionsExt, PermissionsExt, fchown};
 use std::path::Path;
 use std::random::RandomSource;
 use std::rt::Files;
-use std::{fs, io};
 
 // How many symbolic links are followed, as by the system.
 const MOST_LINKS: usize = 40;
@@ -227,5 +226,93 @@ pub(crate) fn metadata_at<Y: Files>(system: &Y, name: &str) -> io::Result<Option
         Ok(metadata) => Ok(Some(metadata)),
         Err(why) if why.kind() == ErrorKind::NotFound => Ok(None),
         Err(why) => Err(why),
+    }
+}
+
+// ---- a journal's file is opened, and locked
+
+// How often it is tried to open a journal that is put in place or taken away meanwhile.
+const MOST_TRIES: usize = 8;
+
+// Whether both are of one file.
+fn is_same(one: &Metadata, other: &Metadata) -> bool {
+    one.ino() == other.ino() && one.dev() == other.dev()
+}
+
+// Whether the open file is the one of that name, and no link is on the way.
+fn is_at<Y: Files>(system: &Y, file: &File, name: &str) -> io::Result<bool> {
+    let open = file.metadata()?;
+    match metadata_at(system, name)? {
+        Some(there) => Ok(is_same(&open, &there)),
+        None => Ok(false),
+    }
+}
+
+// Opens a file to read and append, which is made where it isn't there.
+fn opened<Y: Files<File = File>>(system: &Y, name: &str, mode: u32) -> io::Result<File> {
+    let mut options = OpenOptions::new();
+    options.read(true).append(true).mode(mode);
+    match metadata_at(system, name)? {
+        None => options.create_new(true).open(system, name),
+        Some(there) if there.is_file() => options.open(system, name),
+        Some(_) => Err(io::Error::new(ErrorKind::InvalidInput, "it is no plain file")),
+    }
+}
+
+/// Whether the file is locked now; not where another has it.
+pub(crate) fn is_locked(file: &File) -> io::Result<bool> {
+    match file.try_lock() {
+        Ok(()) => Ok(true),
+        Err(TryLockError::WouldBlock) => Ok(false),
+        Err(TryLockError::Error(why)) => Err(why),
+    }
+}
+
+/// Opens the file of that name and locks it; none where another has it. Where it isn't there, it is made with
+/// that mode. No link is followed.
+pub(crate) fn locked<Y: Files<File = File>>(
+    system: &Y,
+    name: &str,
+    mode: u32,
+) -> io::Result<Option<File>> {
+    for _ in 0..MOST_TRIES {
+        let file = opened(system, name, mode)?;
+        if !is_locked(&file)? {
+            return Ok(None);
+        }
+        if is_at(system, &file, name)? {
+            return Ok(Some(file));
+        }
+    }
+    Ok(None)
+}
+
+// ---- what tells whether a file was changed by another program
+
+/// What a file was: which one, how long, and when it was changed.
+#[derive(Clone, Copy, PartialEq, Eq)]
+pub(crate) struct FileStamp {
+    pub(crate) node: u64,
+    pub(crate) length: u64,
+    pub(crate) seconds: i64,
+    pub(crate) nanos: i64,
+}
+
+impl FileStamp {
+    pub(crate) fn of(metadata: &Metadata) -> FileStamp {
+        FileStamp {
+            node: metadata.ino(),
+            length: metadata.len(),
+            seconds: metadata.mtime(),
+            nanos: metadata.mtime_nsec(),
+        }
+    }
+}
+
+/// What the file of that name is; none where there is none.
+pub(crate) fn stamp_at<Y: Files>(system: &Y, name: &str) -> io::Result<Option<FileStamp>> {
+    match metadata_at(system, name)? {
+        Some(there) => Ok(Some(FileStamp::of(&there))),
+        None => Ok(None),
     }
 }

@@ -1,6 +1,6 @@
 // The replay of a journal over a tree.
-ghost use Rattle.std.specs.Prelude.{◌≡◌, ◌⊎◌, [], ◌∷◌, None, Some, IfOk, IfErr, IfSome, IsSome, OnOk};
-ghost use Rattle.std.specs.Prelude.{◌+◌, ◌<◌, drop, length, position};
+ghost use Rattle.std.specs.Prelude.{◌≡◌, ◌⊎◌, [], ◌∷◌, None, Some, IfOk, IfErr, IfSome, IsSome, OnOk, ◌+◌};
+ghost use Rattle.std.specs.Prelude.{◌<◌, drop, length, position};
 ghost use Rattle.std.specs.Map.{keys_of};
 ghost use Rattle.std.specs.Option.{option_map, option_and_then};
 ghost use Rattle.rt_peer.specs.Peers.{least_free};
@@ -9,8 +9,9 @@ ghost use Rattle.rt_journal.specs.Entries.{is_feed, pieces_of};
 ghost use Rattle.rt_journal.specs.Replays.{after_entry, after_line, after_pieces, asked, begun, called};
 ghost use Rattle.rt_journal.specs.Replays.{closed, ends_of, has_ended, left, new_replay, replay_of, told};
 ghost use Rattle.rt_journal.specs.Replays.{torn_length, turned};
+ghost use Rattle.rt_journal.specs.laws.Reading.{ReadsBack};
 
-use crate::entry::{LineFault, entry_in, feed_in, number_in};
+use crate::line::{LineFault, entry_in, feed_in, number_in};
 use rt_peer::{Peer, PeerError};
 use rt_tree::Tree;
 use rt_wire::{ClientMessage, WireError};
@@ -323,3 +324,11 @@ pub fn replay_over(alloc: Global, tree: Tree, journal: &[u8]) -> Result<Replayed
     let tree = replaying.peer.tree().copy(alloc)?;
     Ok(Replayed { tree, left, torn })
 }
+
+// ---- what holds of journals
+
+/// What was written to a journal is done again, and no more of it than its whole lines: the replay of the
+/// lines of entries, whatever stands behind the last line feed, does these entries.
+pub fn reading_law()
+    ensures { ReadsBack }
+{}

@@ -20,14 +20,14 @@ enum Cause {
 
 // What encloses a value: the key of an object's member, or a place in an array.
 #[derive(Clone, Copy, Drop)]
-enum Level<'a> {
+enum TextLevel<'a> {
     Member(&'a str),
     Place(usize),
 }
 
 // Where something stands in a text: both are counted from 1, the column in bytes.
 #[derive(Clone, Copy)]
-struct Spot {
+struct TextSpot {
     line: usize,
     column: usize,
 }
@@ -37,7 +37,7 @@ struct Spot {
 pub struct Trouble {
     cause: Cause,
     // None where it is wrong as a whole.
-    spot: Option<Spot>,
+    spot: Option<TextSpot>,
     path: String,
 }
 
@@ -77,11 +77,11 @@ impl fmt::Display for Trouble {
 }
 
 // Where the byte of that number stands.
-fn spot_of(text: &str, offset: usize) -> Spot {
-    let mut spot = Spot { line: 1, column: 1 };
+fn spot_of(text: &str, offset: usize) -> TextSpot {
+    let mut spot = TextSpot { line: 1, column: 1 };
     for byte in text.as_bytes().iter().take(offset) {
         if *byte == b'\n' {
-            spot = Spot {
+            spot = TextSpot {
                 line: spot.line.saturating_add(1),
                 column: 1,
             };
@@ -105,13 +105,13 @@ fn begin_of(text: &str, offset: usize) -> usize {
 }
 
 // The path of what these levels enclose.
-fn path_of(alloc: Global, levels: &[Level<'_>]) -> Result<String, AllocError> {
+fn path_of(alloc: Global, levels: &[TextLevel<'_>]) -> Result<String, AllocError> {
     let mut path = String::new(alloc);
     for level in levels {
         path.push('/')?;
         match level {
-            Level::Member(key) => path.push_str(key)?,
-            Level::Place(place) => path.push_str(format!(in alloc; "{place}")?.as_str())?,
+            TextLevel::Member(key) => path.push_str(key)?,
+            TextLevel::Place(place) => path.push_str(format!(in alloc; "{place}")?.as_str())?,
         }
     }
     Ok(path)
@@ -147,8 +147,8 @@ fn leaf_fault(
 }
 
 // A value of this level has ended: the next one in an array has the next place.
-fn pass(levels: &mut [Level<'_>]) {
-    if let Some(Level::Place(place)) = levels.last_mut() {
+fn pass(levels: &mut [TextLevel<'_>]) {
+    if let Some(TextLevel::Place(place)) = levels.last_mut() {
         *place = place.saturating_add(1);
     }
 }
@@ -156,12 +156,12 @@ fn pass(levels: &mut [Level<'_>]) {
 // What the token is refused for under these levels, which are those behind it then.
 fn take<'a>(
     alloc: Global,
-    levels: &mut Vec<Level<'a>>,
+    levels: &mut Vec<TextLevel<'a>>,
     token: Token<'a>,
 ) -> Result<Option<TreeError>, AllocError> {
     match token {
-        Token::BeginObject => levels.push(Level::Member(""))?,
-        Token::BeginArray => levels.push(Level::Place(0))?,
+        Token::BeginObject => levels.push(TextLevel::Member(""))?,
+        Token::BeginArray => levels.push(TextLevel::Place(0))?,
         Token::EndObject | Token::EndArray => {
             levels.pop();
             pass(levels);
@@ -170,7 +170,7 @@ fn take<'a>(
             levels.pop();
             let fault = key_fault(alloc, key)?;
             if fault.is_none() {
-                levels.push(Level::Member(key))?;
+                levels.push(TextLevel::Member(key))?;
             }
             return Ok(fault);
         }
@@ -229,7 +229,7 @@ fn broken_in(alloc: Global, text: &str) -> Result<Trouble, AllocError> {
             } else {
                 Cause::NotJson
             },
-            spot: Some(Spot {
+            spot: Some(TextSpot {
                 line: error.line(),
                 column: error.column().max(1),
             }),

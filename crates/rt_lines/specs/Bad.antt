@@ -9,12 +9,12 @@ use Rattle.rt_input.specs.Log.{log_line}
 use Rattle.rt_lines.specs.Lines.{has_mark, line_of_bytes}
 use Rattle.rt_lines.specs.Typing.{typed_of_bytes}
 use Rattle.rt_lines.specs.Words.{parts_in}
-use Rattle.rt_lines.specs.declared.bad.LinesTaken.{LinesTaken}
+use Rattle.rt_lines.specs.declared.error.LinesTaken.{LinesTaken}
 use Rattle.rt_lines.specs.declared.error.LineError.{LineError}
 use Rattle.rt_lines.specs.declared.error.LineError.TheVariants as line
 use Rattle.rt_lines.specs.declared.error.Refusal.{Refusal}
 use Rattle.rt_lines.specs.declared.line.Line.{Line}
-use Rattle.rt_lines.specs.declared.typed.Typed.{Typed}
+use Rattle.rt_lines.specs.declared.order.Typed.{Typed}
 
 -- words, and the form of the lines of each
 abbrev pub rows_of : List (Bor (List ℕ) × Bor (List ℕ)) → List (List ℕ × List ℕ)

@@ -2,7 +2,7 @@
 use Rattle.std.specs.Prelude.{ℕ, List, [], ◌∷◌, Option, Some, None, Result, Ok, Err}
 use Rattle.rt_order.specs.declared.index.Index.TheVariants as index
 use Rattle.rt_query.specs.declared.error.QueryError.{QueryError}
-use Rattle.rt_query.specs.declared.limit.Limit.TheVariants.{First, Last}
+use Rattle.rt_query.specs.declared.query.Limit.TheVariants.{First, Last}
 use Rattle.rt_query.specs.Bounds as bounds
 use Rattle.rt_query.specs.Calls.{bound_refusal, bounded_by, limit_refusal, limited_to}
 use Rattle.rt_query.specs.Calls.{order_refusal, ordered_by}

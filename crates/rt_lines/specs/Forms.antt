@@ -13,26 +13,26 @@ pub data Written : Type 0 where
   Remove : List ℕ → Written
 
 -- a line of one of the forms: numbers, texts, calls and JSON data, as they stand there
-pub data Form : Type 0 where
-  Listen : ℕ → List ℕ → List Call → Form
-  Unlisten : ℕ → ℕ → Form
-  Write : ℕ → Written → Form
-  OnDisconnect : ℕ → Written → Form
-  CancelDisconnect : ℕ → List ℕ → Form
-  Close : ℕ → Form
-  Data : ℕ → List ℕ → Json → Form
-  Merge : ℕ → Members → Form
-  Parts : List (ℕ × Members) → Form
-  Accepted : ℕ → Form
-  Refused : ℕ → List ℕ → Form
-  Revoked : ℕ → List ℕ → Form
-  Server : List ℕ → Form
-  Connected : Form
-  Disconnected : Form
-  Out : Form
-  Cover : Form
-  View : ℕ → Form
-  Push : ℕ → List ℕ → Form
+pub data LineForm : Type 0 where
+  Listen : ℕ → List ℕ → List Call → LineForm
+  Unlisten : ℕ → ℕ → LineForm
+  Write : ℕ → Written → LineForm
+  OnDisconnect : ℕ → Written → LineForm
+  CancelDisconnect : ℕ → List ℕ → LineForm
+  Close : ℕ → LineForm
+  Data : ℕ → List ℕ → Json → LineForm
+  Merge : ℕ → Members → LineForm
+  Parts : List (ℕ × Members) → LineForm
+  Accepted : ℕ → LineForm
+  Refused : ℕ → List ℕ → LineForm
+  Revoked : ℕ → List ℕ → LineForm
+  Server : List ℕ → LineForm
+  Connected : LineForm
+  Disconnected : LineForm
+  Out : LineForm
+  Cover : LineForm
+  View : ℕ → LineForm
+  Push : ℕ → List ℕ → LineForm
 
 -- ---- what a write sets
 
@@ -62,56 +62,56 @@ written_in name words =
 -- ---- the words behind the name, form by form: what a seat asks for
 
 -- `["listen",seat,path,[call,..]]`
-abbrev pub listen_form : List Json → Option Form
+abbrev pub listen_form : List Json → Option LineForm
 listen_form (seat ∷ path ∷ calls ∷ []) =
     option_and_then (λ n. option_and_then (λ p. option_map (Listen n p) (calls_in calls))
     (as_str path)) (seat_in seat)
 listen_form _ = None
 
 -- `["unlisten",seat,listener]`
-abbrev pub unlisten_form : List Json → Option Form
+abbrev pub unlisten_form : List Json → Option LineForm
 unlisten_form (seat ∷ listener ∷ []) =
     option_and_then (λ n. option_map (Unlisten n) (whole listener)) (seat_in seat)
 unlisten_form _ = None
 
 -- `["set",seat,path,value]`, `["update",seat,{path:value,..}]`, `["remove",seat,path]`
-abbrev pub write_form : List ℕ → List Json → Option Form
+abbrev pub write_form : List ℕ → List Json → Option LineForm
 write_form name [] = None
 write_form name (seat ∷ words) =
     option_and_then (λ n. option_map (Write n) (written_in name words)) (seat_in seat)
 
 -- `["onDisconnect",seat,"cancel",path]`
-abbrev pub cancel_form : ℕ → List Json → Option Form
+abbrev pub cancel_form : ℕ → List Json → Option LineForm
 cancel_form seat (path ∷ []) = option_map (CancelDisconnect seat) (as_str path)
 cancel_form seat _ = None
 
 -- what is asked for the end of the connection: to cancel, or a write
-abbrev pub ending_form : ℕ → List ℕ → List Json → Option Form
+abbrev pub ending_form : ℕ → List ℕ → List Json → Option LineForm
 ending_form seat what words =
     if bytes_eq what (codes "cancel") then cancel_form seat words
     else option_map (OnDisconnect seat) (written_in what words)
 
 -- `["onDisconnect",seat,"set",path,value]` and the like
-abbrev pub on_disconnect_form : List Json → Option Form
+abbrev pub on_disconnect_form : List Json → Option LineForm
 on_disconnect_form (seat ∷ what ∷ words) =
     option_and_then (λ n. option_and_then (λ w. ending_form n w words) (as_str what)) (seat_in seat)
 on_disconnect_form _ = None
 
 -- `["close",seat]`
-abbrev pub close_form : List Json → Option Form
+abbrev pub close_form : List Json → Option LineForm
 close_form (seat ∷ []) = option_map Close (seat_in seat)
 close_form _ = None
 
 -- ---- what the server sends
 
 -- `["data",tag,path,value]`
-abbrev pub data_form : List Json → Option Form
+abbrev pub data_form : List Json → Option LineForm
 data_form (tag ∷ path ∷ value ∷ []) =
     option_and_then (λ n. option_map (λ p. Data n p value) (as_str path)) (whole tag)
 data_form _ = None
 
 -- `["merge",tag,{path:value,..}]`
-abbrev pub merge_form : List Json → Option Form
+abbrev pub merge_form : List Json → Option LineForm
 merge_form (tag ∷ entries ∷ []) =
     option_and_then (λ n. option_map (Merge n) (as_object entries)) (whole tag)
 merge_form _ = None
@@ -135,53 +135,53 @@ abbrev pub parts_in : Json → Option (List (ℕ × Members))
 parts_in d = option_and_then (λ ds. all_parts (elements ds)) (as_array d)
 
 -- `["parts",[[tag,{path:value,..}],..]]`
-abbrev pub parts_form : List Json → Option Form
+abbrev pub parts_form : List Json → Option LineForm
 parts_form (parts ∷ []) = option_map Parts (parts_in parts)
 parts_form _ = None
 
 -- `["ok",id]`
-abbrev pub ok_form : List Json → Option Form
+abbrev pub ok_form : List Json → Option LineForm
 ok_form (id ∷ []) = option_map Accepted (whole id)
 ok_form _ = None
 
 -- `["no",id,why]`
-abbrev pub no_form : List Json → Option Form
+abbrev pub no_form : List Json → Option LineForm
 no_form (id ∷ why ∷ []) = option_and_then (λ n. option_map (Refused n) (as_str why)) (whole id)
 no_form _ = None
 
 -- `["revoke",tag,why]`
-abbrev pub revoke_form : List Json → Option Form
+abbrev pub revoke_form : List Json → Option LineForm
 revoke_form (tag ∷ why ∷ []) = option_and_then (λ n. option_map (Revoked n) (as_str why)) (whole tag)
 revoke_form _ = None
 
 -- `["server",text]`
-abbrev pub server_form : List Json → Option Form
+abbrev pub server_form : List Json → Option LineForm
 server_form (text ∷ []) = option_map Server (as_str text)
 server_form _ = None
 
 -- ---- the connection, and looks at the core
 
 -- `["connected"]`, `["disconnected"]`, `["out"]`, `["cover"]`
-abbrev pub lone_form : Form → List Json → Option Form
+abbrev pub lone_form : LineForm → List Json → Option LineForm
 lone_form form [] = Some form
 lone_form form _ = None
 
 -- `["view",listener]`
-abbrev pub view_form : List Json → Option Form
+abbrev pub view_form : List Json → Option LineForm
 view_form (listener ∷ []) = option_map View (whole listener)
 view_form _ = None
 
 -- ---- push ids
 
 -- `["push",ms,[r1,..,r12]]`
-abbrev pub push_form : List Json → Option Form
+abbrev pub push_form : List Json → Option LineForm
 push_form (now ∷ random ∷ []) =
     option_and_then (λ ms. option_map (Push ms) (random_in random)) (whole now)
 push_form _ = None
 
 -- ---- a line of that name
 
-abbrev pub server_named : List ℕ → List Json → Option Form
+abbrev pub server_named : List ℕ → List Json → Option LineForm
 server_named name words =
     if bytes_eq name (codes "data") then data_form words
     else if bytes_eq name (codes "merge") then merge_form words
@@ -191,7 +191,7 @@ server_named name words =
     else if bytes_eq name (codes "server") then server_form words
     else None
 
-abbrev pub lone_named : List ℕ → List Json → Option Form
+abbrev pub lone_named : List ℕ → List Json → Option LineForm
 lone_named name words =
     if bytes_eq name (codes "connected") then lone_form Connected words
     else if bytes_eq name (codes "disconnected") then lone_form Disconnected words
@@ -201,7 +201,7 @@ lone_named name words =
     else if bytes_eq name (codes "push") then push_form words
     else server_named name words
 
-abbrev pub seat_named : List ℕ → List Json → Option Form
+abbrev pub seat_named : List ℕ → List Json → Option LineForm
 seat_named name words =
     if bytes_eq name (codes "unlisten") then unlisten_form words
     else if bytes_eq name (codes "set") then write_form name words
@@ -211,12 +211,12 @@ seat_named name words =
     else if bytes_eq name (codes "close") then close_form words
     else lone_named name words
 
-abbrev pub form_named : List ℕ → List Json → Option Form
+abbrev pub form_named : List ℕ → List Json → Option LineForm
 form_named name words =
     if bytes_eq name (codes "listen") then listen_form words
     else if bytes_eq name (codes "parts") then parts_form words
     else seat_named name words
 
 -- the form that a JSON value has, if it has one
-abbrev pub form_in : Json → Option Form
+abbrev pub form_in : Json → Option LineForm
 form_in d = named_in form_named d

@@ -17,7 +17,7 @@ use Rattle.rt_lines.specs.declared.error.LineError.TheVariants.{Bad, Refused}
 use Rattle.rt_lines.specs.declared.error.Refusal.TheVariants.{Wire}
 use Rattle.rt_lines.specs.declared.line.Line.{Line}
 use Rattle.rt_lines.specs.declared.line.Line.TheVariants as line
-use Rattle.rt_lines.specs.Forms.{Form, form_in}
+use Rattle.rt_lines.specs.Forms.{LineForm, form_in}
 use Rattle.rt_lines.specs.Forms as form
 use Rattle.rt_lines.specs.Reading.{and_then, path_in, tree_in, entries_in, parts_read, action_in}
 use Rattle.rt_lines.specs.Drafts.{query_in}
@@ -36,7 +36,7 @@ abbrev pub makes : Step → Result Line LineError
 makes s = Ok (line.Step s)
 
 -- what a line of a form asks for
-abbrev pub line_in : Form → Result Line LineError
+abbrev pub line_in : LineForm → Result Line LineError
 line_in (form.Listen seat path calls) = and_then (query_in path calls) (λ q. makes (step.Listen seat q))
 line_in (form.Unlisten seat listener) = makes (step.Unlisten seat listener)
 line_in (form.Write seat written) = and_then (action_in written) (λ a. makes (step.Write seat a))

@@ -5,14 +5,14 @@ use Rattle.std.specs.Prelude.{List, [], ◌∷◌, Option, Some, None, Result, O
 use Rattle.std.specs.Option.{option_map_or}
 use Rattle.serde_json.specs.Data.{Data as Json}
 use Rattle.rt_wire.specs.declared.request.Ending.TheVariants.{Run, Cancel}
-use Rattle.rt_world.specs.declared.call.Call.{Call}
-use Rattle.rt_world.specs.declared.call.Call.TheVariants as call
+use Rattle.rt_world.specs.declared.step.Call.{Call}
+use Rattle.rt_world.specs.declared.step.Call.TheVariants as call
 use Rattle.rt_lines.specs.declared.error.LineError.{LineError}
 use Rattle.rt_lines.specs.declared.error.LineError.TheVariants.{Bad, Refused, NoMemory}
 use Rattle.rt_lines.specs.declared.order.Order.{Order}
 use Rattle.rt_lines.specs.declared.order.Order.TheVariants as order
 use Rattle.rt_lines.specs.Drafts.{query_in}
-use Rattle.rt_lines.specs.Forms.{Form, form_named}
+use Rattle.rt_lines.specs.Forms.{LineForm, form_named}
 use Rattle.rt_lines.specs.Forms as form
 use Rattle.rt_lines.specs.Lines.{data_of_bytes}
 use Rattle.rt_lines.specs.Reading.{action_in, and_then, path_in}
@@ -33,7 +33,7 @@ calls seat c = Ok (order.Seat seat c)
 
 -- what a line of a form asks of a client; what the server sends, the connection, messages to be sent, views
 -- and push ids are none of a client's lines
-abbrev pub order_in : Form → Result Order LineError
+abbrev pub order_in : LineForm → Result Order LineError
 order_in (form.Listen seat path cs) = and_then (query_in path cs) (λ q. calls seat (call.Listen q))
 order_in (form.Unlisten seat listener) = calls seat (call.Unlisten listener)
 order_in (form.Write seat written) = and_then (action_in written) (λ a. calls seat (call.Write a))

@@ -10,8 +10,8 @@ use Rattle.rt_tree.specs.Writing.{data_of}
 use Rattle.rt_query.specs.declared.row.Row.{Row}
 use Rattle.rt_query.specs.Queries.{Query, is_filtered}
 use Rattle.rt_query.specs.Select.{Shown}
-use Rattle.rt_cover.specs.declared.kept.Kept.{Kept}
-use Rattle.rt_view.specs.declared.batch.Batch.{Batch}
+use Rattle.rt_cover.specs.declared.listen.Kept.{Kept}
+use Rattle.rt_view.specs.declared.change.Batch.{Batch}
 use Rattle.rt_view.specs.declared.change.Change.{Change}
 use Rattle.rt_view.specs.declared.change.Change.TheVariants.{Removed, Added, Moved, Changed, Value}
 use Rattle.rt_wire.specs.declared.client.ClientMessage.{ClientMessage}

@@ -6,8 +6,8 @@ use Rattle.serde_json.specs.Data.{Data as Json}
 use Rattle.serde_json.specs.Find.{as_str}
 use Rattle.rt_lines.specs.declared.error.LineError.{LineError}
 use Rattle.rt_lines.specs.declared.error.LineError.TheVariants.{Bad}
-use Rattle.rt_lines.specs.declared.typed.Typed.{Typed}
-use Rattle.rt_lines.specs.declared.typed.Typed.TheVariants as typed
+use Rattle.rt_lines.specs.declared.order.Typed.{Typed}
+use Rattle.rt_lines.specs.declared.order.Typed.TheVariants as typed
 use Rattle.rt_lines.specs.Lines.{data_of_bytes}
 use Rattle.rt_lines.specs.Orders.{order_named}
 use Rattle.rt_lines.specs.Reading.{and_then, path_in, tree_in}

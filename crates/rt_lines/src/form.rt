@@ -12,7 +12,7 @@ ghost use Rattle.rt_lines.specs.inside.FormView.{as_form, as_part, as_parts, as_
 
 use crate::call::{Call, calls_in};
 use crate::error::LineError;
-use crate::word::{parts_of, random_of, seat_of};
+use crate::words::{parts_of, random_of, seat_of};
 use serde_json::Value;
 use std::alloc::Global;
 use std::collections::BTreeMap;
@@ -44,7 +44,7 @@ pub(crate) struct PartWords<'a> {
 
 /// A line of one of the script's forms, its words as they stand there.
 #[derive(Drop)]
-pub(crate) enum Form<'a> {
+pub(crate) enum LineForm<'a> {
     /// `["listen",seat,path,[call,..]]`
     Listen {
         seat: u64,
@@ -173,56 +173,56 @@ fn written_of<'a>(name: &str, words: &'a [Value]) -> Option<Written<'a>>
     }
 }
 
-fn write<'a>(name: &str, words: &'a [Value]) -> Option<Form<'a>>
+fn write<'a>(name: &str, words: &'a [Value]) -> Option<LineForm<'a>>
     ensures { option_map as_form result ≡ write_form name.now (views words.entry.now) }
 {
     let [seat, words @ ..] = words else {
         return None;
     };
-    Some(Form::Write {
+    Some(LineForm::Write {
         seat: seat_of(seat)?,
         written: written_of(name, words)?,
     })
 }
 
-fn unlisten(words: &[Value]) -> Option<Form<'_>>
+fn unlisten(words: &[Value]) -> Option<LineForm<'_>>
     ensures { option_map as_form result ≡ unlisten_form (views words.now) }
 {
     let [seat, listener] = words else {
         return None;
     };
-    Some(Form::Unlisten {
+    Some(LineForm::Unlisten {
         seat: seat_of(seat)?,
         listener: listener.as_u64()?,
     })
 }
 
-fn cancel(seat: u64, words: &[Value]) -> Option<Form<'_>>
+fn cancel(seat: u64, words: &[Value]) -> Option<LineForm<'_>>
     ensures { option_map as_form result ≡ cancel_form seat (views words.now) }
 {
     let [path] = words else {
         return None;
     };
-    Some(Form::CancelDisconnect {
+    Some(LineForm::CancelDisconnect {
         seat,
         path: path.as_str()?,
     })
 }
 
 // What is asked for the end of the connection.
-fn ending<'a>(seat: u64, what: &str, words: &'a [Value]) -> Option<Form<'a>>
+fn ending<'a>(seat: u64, what: &str, words: &'a [Value]) -> Option<LineForm<'a>>
     ensures { option_map as_form result ≡ ending_form seat what.now (views words.entry.now) }
 {
     if what == "cancel" {
         return cancel(seat, words);
     }
-    Some(Form::OnDisconnect {
+    Some(LineForm::OnDisconnect {
         seat,
         written: written_of(what, words)?,
     })
 }
 
-fn on_disconnect(words: &[Value]) -> Option<Form<'_>>
+fn on_disconnect(words: &[Value]) -> Option<LineForm<'_>>
     ensures { option_map as_form result ≡ on_disconnect_form (views words.now) }
 {
     let [seat, what, words @ ..] = words else {
@@ -231,118 +231,118 @@ fn on_disconnect(words: &[Value]) -> Option<Form<'_>>
     ending(seat_of(seat)?, what.as_str()?, words)
 }
 
-fn close(words: &[Value]) -> Option<Form<'_>>
+fn close(words: &[Value]) -> Option<LineForm<'_>>
     ensures { option_map as_form result ≡ close_form (views words.now) }
 {
     let [seat] = words else {
         return None;
     };
-    Some(Form::Close {
+    Some(LineForm::Close {
         seat: seat_of(seat)?,
     })
 }
 
-fn data(words: &[Value]) -> Option<Form<'_>>
+fn data(words: &[Value]) -> Option<LineForm<'_>>
     ensures { option_map as_form result ≡ data_form (views words.now) }
 {
     let [tag, path, value] = words else {
         return None;
     };
-    Some(Form::Data {
+    Some(LineForm::Data {
         tag: tag.as_u64()?,
         path: path.as_str()?,
         value,
     })
 }
 
-fn merge(words: &[Value]) -> Option<Form<'_>>
+fn merge(words: &[Value]) -> Option<LineForm<'_>>
     ensures { option_map as_form result ≡ merge_form (views words.now) }
 {
     let [tag, entries] = words else {
         return None;
     };
-    Some(Form::Merge {
+    Some(LineForm::Merge {
         tag: tag.as_u64()?,
         entries: entries.as_object()?,
     })
 }
 
-fn ok(words: &[Value]) -> Option<Form<'_>>
+fn ok(words: &[Value]) -> Option<LineForm<'_>>
     ensures { option_map as_form result ≡ ok_form (views words.now) }
 {
     let [id] = words else {
         return None;
     };
-    Some(Form::Accepted { id: id.as_u64()? })
+    Some(LineForm::Accepted { id: id.as_u64()? })
 }
 
-fn no(words: &[Value]) -> Option<Form<'_>>
+fn no(words: &[Value]) -> Option<LineForm<'_>>
     ensures { option_map as_form result ≡ no_form (views words.now) }
 {
     let [id, why] = words else {
         return None;
     };
-    Some(Form::Refused {
+    Some(LineForm::Refused {
         id: id.as_u64()?,
         why: why.as_str()?,
     })
 }
 
-fn revoke(words: &[Value]) -> Option<Form<'_>>
+fn revoke(words: &[Value]) -> Option<LineForm<'_>>
     ensures { option_map as_form result ≡ revoke_form (views words.now) }
 {
     let [tag, why] = words else {
         return None;
     };
-    Some(Form::Revoked {
+    Some(LineForm::Revoked {
         tag: tag.as_u64()?,
         why: why.as_str()?,
     })
 }
 
-fn server(words: &[Value]) -> Option<Form<'_>>
+fn server(words: &[Value]) -> Option<LineForm<'_>>
     ensures { option_map as_form result ≡ server_form (views words.now) }
 {
     let [text] = words else {
         return None;
     };
-    Some(Form::Server {
+    Some(LineForm::Server {
         text: text.as_str()?,
     })
 }
 
 // A line without words.
-fn lone<'a>(form: Form<'a>, words: &[Value]) -> Option<Form<'a>>
+fn lone<'a>(form: LineForm<'a>, words: &[Value]) -> Option<LineForm<'a>>
     ensures { option_map as_form result ≡ lone_form (as_form form.entry) (views words.now) }
 {
     if words.is_empty() { Some(form) } else { None }
 }
 
-fn view(words: &[Value]) -> Option<Form<'_>>
+fn view(words: &[Value]) -> Option<LineForm<'_>>
     ensures { option_map as_form result ≡ view_form (views words.now) }
 {
     let [listener] = words else {
         return None;
     };
-    Some(Form::View {
+    Some(LineForm::View {
         listener: listener.as_u64()?,
     })
 }
 
-fn push(words: &[Value]) -> Option<Form<'_>>
+fn push(words: &[Value]) -> Option<LineForm<'_>>
     ensures { option_map as_form result ≡ push_form (views words.now) }
 {
     let [now_ms, random] = words else {
         return None;
     };
-    Some(Form::Push {
+    Some(LineForm::Push {
         now_ms: now_ms.as_u64()?,
         random: random_of(random)?,
     })
 }
 
 // What the server sends, by that name.
-fn server_named<'a>(name: &str, words: &'a [Value]) -> Option<Form<'a>>
+fn server_named<'a>(name: &str, words: &'a [Value]) -> Option<LineForm<'a>>
     ensures { option_map as_form result ≡ server_named name.now (views words.entry.now) }
 {
     match name {
@@ -357,14 +357,14 @@ fn server_named<'a>(name: &str, words: &'a [Value]) -> Option<Form<'a>>
 }
 
 // The connection, looks at the core and push ids, or what the server sends.
-fn lone_named<'a>(name: &str, words: &'a [Value]) -> Option<Form<'a>>
+fn lone_named<'a>(name: &str, words: &'a [Value]) -> Option<LineForm<'a>>
     ensures { option_map as_form result ≡ lone_named name.now (views words.entry.now) }
 {
     match name {
-        "connected" => lone(Form::Connected, words),
-        "disconnected" => lone(Form::Disconnected, words),
-        "out" => lone(Form::Out, words),
-        "cover" => lone(Form::Cover, words),
+        "connected" => lone(LineForm::Connected, words),
+        "disconnected" => lone(LineForm::Disconnected, words),
+        "out" => lone(LineForm::Out, words),
+        "cover" => lone(LineForm::Cover, words),
         "view" => view(words),
         "push" => push(words),
         _ => server_named(name, words),
@@ -372,7 +372,7 @@ fn lone_named<'a>(name: &str, words: &'a [Value]) -> Option<Form<'a>>
 }
 
 // What a seat asks for beside listens, or another line.
-fn seat_named<'a>(name: &str, words: &'a [Value]) -> Option<Form<'a>>
+fn seat_named<'a>(name: &str, words: &'a [Value]) -> Option<LineForm<'a>>
     ensures { option_map as_form result ≡ seat_named name.now (views words.entry.now) }
 {
     match name {
@@ -386,7 +386,7 @@ fn seat_named<'a>(name: &str, words: &'a [Value]) -> Option<Form<'a>>
     }
 }
 
-fn listen<'a>(alloc: Global, words: &'a [Value]) -> Result<Form<'a>, LineError>
+fn listen<'a>(alloc: Global, words: &'a [Value]) -> Result<LineForm<'a>, LineError>
     ensures ok { IfOk result (λ form. listen_form (views words.entry.now) ≡ Some (as_form form)) }
     ensures err { IfErr result (λ e. (e ≡ LineError.Bad) × (listen_form (views words.entry.now) ≡ None)
         ⊎ (e ≡ LineError.NoMemory)) }
@@ -397,7 +397,7 @@ fn listen<'a>(alloc: Global, words: &'a [Value]) -> Result<Form<'a>, LineError>
     let seat = seat_of(seat).ok_or(LineError::Bad)?;
     let path = path.as_str().ok_or(LineError::Bad)?;
     let calls = calls_in(alloc, calls)?;
-    Ok(Form::Listen { seat, path, calls })
+    Ok(LineForm::Listen { seat, path, calls })
 }
 
 // The part of these words.
@@ -449,7 +449,7 @@ fn parts_in(alloc: Global, value: &Value) -> Result<Vec<PartWords<'_>>, LineErro
 }
 
 // The parts that are pushed together.
-fn parts<'a>(alloc: Global, words: &'a [Value]) -> Result<Form<'a>, LineError>
+fn parts<'a>(alloc: Global, words: &'a [Value]) -> Result<LineForm<'a>, LineError>
     ensures ok { IfOk result (λ form. parts_form (views words.entry.now) ≡ Some (as_form form)) }
     ensures err { IfErr result (λ e. (e ≡ LineError.Bad) × (parts_form (views words.entry.now) ≡ None)
         ⊎ (e ≡ LineError.NoMemory)) }
@@ -458,7 +458,7 @@ fn parts<'a>(alloc: Global, words: &'a [Value]) -> Result<Form<'a>, LineError>
         return Err(LineError::Bad);
     };
     let parts = parts_in(alloc, value)?;
-    Ok(Form::Parts { parts })
+    Ok(LineForm::Parts { parts })
 }
 
 /// A line of that name.
@@ -466,7 +466,7 @@ pub(crate) fn named<'a>(
     alloc: Global,
     name: &str,
     words: &'a [Value],
-) -> Result<Form<'a>, LineError>
+) -> Result<LineForm<'a>, LineError>
     ensures ok { IfOk result (λ form. form_named name.now (views words.entry.now)
         ≡ Some (as_form form)) }
     ensures err { IfErr result (λ e.
@@ -486,7 +486,7 @@ pub(crate) fn named<'a>(
 }
 
 /// The form that a JSON value has.
-pub(crate) fn form_of(alloc: Global, value: &Value) -> Result<Form<'_>, LineError>
+pub(crate) fn form_of(alloc: Global, value: &Value) -> Result<LineForm<'_>, LineError>
     ensures ok { IfOk result (λ form. form_in (data_of value.entry.now) ≡ Some (as_form form)) }
     ensures err { IfErr result (λ e. (e ≡ LineError.Bad) × (form_in (data_of value.entry.now) ≡ None)
         ⊎ (e ≡ LineError.NoMemory)) }

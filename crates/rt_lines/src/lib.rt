@@ -10,31 +10,19 @@
 //! What a line does to a core is `rt_script`'s, and what it asks of a client `rt_connect`'s.
 #![tactic(auto)]
 
-mod bad;
 mod call;
-mod change;
-mod draft;
 mod error;
 pub mod examples;
 mod form;
 mod line;
 mod order;
-mod reading;
 mod report;
-mod show;
-mod taken;
-mod typed;
-mod word;
+mod words;
 
-pub use bad::{LinesTaken, say_line};
-pub use change::write_batch;
-pub use error::{LineError, Refusal};
+pub use error::{LineError, LinesTaken, Refusal, say_line};
 pub use line::Line;
-pub use order::{MOST_READ, Order};
+pub use order::{CONNECT_LINES, MOST_READ, Order, SCRIPT_LINES, Typed, WATCH_LINES};
 pub use report::{
-    write_bad_line, write_cancelled, write_id, write_outcome, write_refusal, write_refused,
-    write_report, write_settled,
+    write_bad_line, write_batch, write_cancelled, write_cover, write_id, write_messages,
+    write_outcome, write_refusal, write_refused, write_report, write_settled, write_view,
 };
-pub use show::{write_cover, write_messages, write_view};
-pub use taken::{CONNECT_LINES, SCRIPT_LINES, WATCH_LINES};
-pub use typed::Typed;

@@ -6,11 +6,10 @@ ghost use Rattle.rt_lines.specs.Lines.{unmarked};
 ghost use Rattle.rt_lines.specs.Forms as form;
 ghost use Rattle.rt_lines.specs.inside.FormView.{as_calls, as_form, as_parts, as_written};
 
-use crate::call::Call;
-use crate::draft::query_of;
+use crate::call::{Call, query_of};
 use crate::error::{LineError, Refusal};
-use crate::form::{Form, PartWords, Written, form_of};
-use crate::reading::{action_of, entries_of, parts_read, path_of, tree_of};
+use crate::form::{LineForm, PartWords, Written, form_of};
+use crate::words::{action_of, entries_of, parts_read, path_of, tree_of};
 use rt_wire::{Ending, Reason, ServerMessage, WireError};
 use rt_world::Step;
 use serde_json::Value;
@@ -151,31 +150,31 @@ fn revoked(alloc: Global, tag: u64, why: &str) -> Result<Line, LineError>
 
 // What a line of a form asks for. Its words are looked at in their order, so that a line with several
 // faults is refused by the first.
-fn line_of(alloc: Global, form: Form<'_>) -> Result<Line, LineError>
+fn line_of(alloc: Global, form: LineForm<'_>) -> Result<Line, LineError>
     ensures ok { IfOk result (λ line. line_in (as_form form.entry) ≡ Ok line) }
     ensures fault { IfErr result (λ e. (line_in (as_form form.entry) ≡ Err e)
         ⊎ (e ≡ LineError.NoMemory)) }
 {
     match form {
-        Form::Listen { seat, path, calls } => listen(alloc, seat, path, calls),
-        Form::Unlisten { seat, listener } => Ok(Line::Step(Step::Unlisten { seat, listener })),
-        Form::Write { seat, written } => write(alloc, seat, written),
-        Form::OnDisconnect { seat, written } => run_at_end(alloc, seat, written),
-        Form::CancelDisconnect { seat, path } => cancel_at_end(alloc, seat, path),
-        Form::Close { seat } => Ok(Line::Step(Step::CloseSeat { seat })),
-        Form::Data { tag, path, value } => data(alloc, tag, path, value),
-        Form::Merge { tag, entries } => merge(alloc, tag, entries),
-        Form::Parts { parts: words } => parts(alloc, &words),
-        Form::Accepted { id } => Ok(Line::Step(Step::Accepted { id })),
-        Form::Refused { id, why } => refused(alloc, id, why),
-        Form::Revoked { tag, why } => revoked(alloc, tag, why),
-        Form::Server { text } => served(alloc, text),
-        Form::Connected => Ok(Line::Step(Step::Connected)),
-        Form::Disconnected => Ok(Line::Step(Step::Disconnected)),
-        Form::Out => Ok(Line::Out),
-        Form::Cover => Ok(Line::Cover),
-        Form::View { listener } => Ok(Line::View(listener)),
-        Form::Push { now_ms, random } => Ok(Line::Push { now_ms, random }),
+        LineForm::Listen { seat, path, calls } => listen(alloc, seat, path, calls),
+        LineForm::Unlisten { seat, listener } => Ok(Line::Step(Step::Unlisten { seat, listener })),
+        LineForm::Write { seat, written } => write(alloc, seat, written),
+        LineForm::OnDisconnect { seat, written } => run_at_end(alloc, seat, written),
+        LineForm::CancelDisconnect { seat, path } => cancel_at_end(alloc, seat, path),
+        LineForm::Close { seat } => Ok(Line::Step(Step::CloseSeat { seat })),
+        LineForm::Data { tag, path, value } => data(alloc, tag, path, value),
+        LineForm::Merge { tag, entries } => merge(alloc, tag, entries),
+        LineForm::Parts { parts: words } => parts(alloc, &words),
+        LineForm::Accepted { id } => Ok(Line::Step(Step::Accepted { id })),
+        LineForm::Refused { id, why } => refused(alloc, id, why),
+        LineForm::Revoked { tag, why } => revoked(alloc, tag, why),
+        LineForm::Server { text } => served(alloc, text),
+        LineForm::Connected => Ok(Line::Step(Step::Connected)),
+        LineForm::Disconnected => Ok(Line::Step(Step::Disconnected)),
+        LineForm::Out => Ok(Line::Out),
+        LineForm::Cover => Ok(Line::Cover),
+        LineForm::View { listener } => Ok(Line::View(listener)),
+        LineForm::Push { now_ms, random } => Ok(Line::Push { now_ms, random }),
     }
 }
 

@@ -1,17 +1,18 @@
 // What a line asks of a client that is connected.
 ghost use Rattle.std.specs.Prelude.{◌≡◌, ◌⊎◌, IfOk, IfErr, Some, None, Ok, Err};
 ghost use Rattle.serde_json.specs.View.{view as data_of};
-ghost use Rattle.rt_lines.specs.Forms as form;
 ghost use Rattle.rt_lines.specs.Orders.{order_in, order_named, order_of_bytes, order_of_data, times_in};
 ghost use Rattle.rt_lines.specs.inside.FormView.{as_calls, as_form, as_written, views};
+ghost use Rattle.rt_lines.specs.Typing.{push_in, push_of, typed_named, typed_of_bytes, typed_of_data};
+ghost use Rattle.rt_lines.specs.Typing.{view_in};
+ghost use Rattle.rt_lines.specs.Forms as form;
 
-use crate::call::Call as QueryCall;
-use crate::draft::query_of;
-use crate::error::LineError;
-use crate::form::{Form, Written, named};
+use crate::call::{Call as QueryCall, query_of};
+use crate::error::{LineError, LinesTaken};
+use crate::form::{LineForm, Written, named};
 use crate::line::value_of;
-use crate::reading::{action_of, path_of};
-use crate::word::parts_of;
+use crate::words::{action_of, parts_of, path_of, seat_of, tree_of};
+use rt_tree::{Path, Tree};
 use rt_wire::Ending;
 use rt_world::Call;
 use serde_json::Value;
@@ -101,34 +102,34 @@ fn cancel_at_end(alloc: Global, seat: u64, path: &str) -> Result<Order, LineErro
 }
 
 // The order that a line of a script's form is.
-fn order_of(alloc: Global, form: Form<'_>) -> Result<Order, LineError>
+fn order_of(alloc: Global, form: LineForm<'_>) -> Result<Order, LineError>
     ensures ok { IfOk result (λ order. order_in (as_form form.entry) ≡ Ok order) }
     ensures fault { IfErr result (λ e. (order_in (as_form form.entry) ≡ Err e)
         ⊎ (e ≡ LineError.NoMemory)) }
 {
     match form {
-        Form::Listen { seat, path, calls } => listen(alloc, seat, path, calls),
-        Form::Unlisten { seat, listener } => {
+        LineForm::Listen { seat, path, calls } => listen(alloc, seat, path, calls),
+        LineForm::Unlisten { seat, listener } => {
             let call = Call::Unlisten { listener };
             Ok(Order::Seat { seat, call })
         }
-        Form::Write { seat, written } => write(alloc, seat, written),
-        Form::OnDisconnect { seat, written } => run_at_end(alloc, seat, written),
-        Form::CancelDisconnect { seat, path } => cancel_at_end(alloc, seat, path),
-        Form::Close { seat } => Ok(Order::Close { seat }),
-        Form::Cover => Ok(Order::Cover),
-        Form::Data { .. }
-        | Form::Merge { .. }
-        | Form::Parts { .. }
-        | Form::Accepted { .. }
-        | Form::Refused { .. }
-        | Form::Revoked { .. }
-        | Form::Server { .. }
-        | Form::Connected
-        | Form::Disconnected
-        | Form::Out
-        | Form::View { .. }
-        | Form::Push { .. } => Err(LineError::Bad),
+        LineForm::Write { seat, written } => write(alloc, seat, written),
+        LineForm::OnDisconnect { seat, written } => run_at_end(alloc, seat, written),
+        LineForm::CancelDisconnect { seat, path } => cancel_at_end(alloc, seat, path),
+        LineForm::Close { seat } => Ok(Order::Close { seat }),
+        LineForm::Cover => Ok(Order::Cover),
+        LineForm::Data { .. }
+        | LineForm::Merge { .. }
+        | LineForm::Parts { .. }
+        | LineForm::Accepted { .. }
+        | LineForm::Refused { .. }
+        | LineForm::Revoked { .. }
+        | LineForm::Server { .. }
+        | LineForm::Connected
+        | LineForm::Disconnected
+        | LineForm::Out
+        | LineForm::View { .. }
+        | LineForm::Push { .. } => Err(LineError::Bad),
     }
 }
 
@@ -176,3 +177,175 @@ impl Order {
         order_of_value(alloc, &value_of(alloc, bytes)?)
     }
 }
+
+// ---- what a line asks of a client that is watched
+
+/// What a line asks of a client that is watched.
+#[derive(Drop)]
+pub enum Typed {
+    /// What it asks of any client that is connected.
+    Order(Order),
+    /// What the listener of that number shows.
+    View { listener: u64 },
+    /// A write of the seat of that number below the path, by a push id.
+    Push { seat: u64, path: Path, tree: Tree },
+}
+
+// What a listener shows: `["view",listener]`.
+fn viewed(words: &[Value]) -> Result<Typed, LineError>
+    ensures { result ≡ view_in (views words.now) }
+{
+    let [listener] = words else {
+        return Err(LineError::Bad);
+    };
+    match listener.as_u64() {
+        Some(listener) => Ok(Typed::View { listener }),
+        None => Err(LineError::Bad),
+    }
+}
+
+// A write below that path.
+fn push_of(alloc: Global, seat: u64, path: &str, value: &Value) -> Result<Typed, LineError>
+    ensures ok { IfOk result (λ typed. push_of seat path.now (data_of value.now) ≡ Ok typed) }
+    ensures fault { IfErr result (λ e. (push_of seat path.now (data_of value.now) ≡ Err e)
+        ⊎ (e ≡ LineError.NoMemory)) }
+{
+    let path = path_of(alloc, path)?;
+    let tree = tree_of(alloc, value)?;
+    Ok(Typed::Push { seat, path, tree })
+}
+
+// A write by a push id: `["push",seat,path,value]`.
+fn pushed(alloc: Global, words: &[Value]) -> Result<Typed, LineError>
+    ensures ok { IfOk result (λ typed. push_in (views words.now) ≡ Ok typed) }
+    ensures fault { IfErr result (λ e. (push_in (views words.now) ≡ Err e) ⊎ (e ≡ LineError.NoMemory)) }
+{
+    let [seat, path, value] = words else {
+        return Err(LineError::Bad);
+    };
+    match (seat_of(seat), path.as_str()) {
+        (Some(seat), Some(path)) => push_of(alloc, seat, path, value),
+        (Some(_), None) | (None, _) => Err(LineError::Bad),
+    }
+}
+
+// What the line of that name asks for.
+fn typed_of_name(alloc: Global, name: &str, words: &[Value]) -> Result<Typed, LineError>
+    ensures ok { IfOk result (λ typed. typed_named name.now (views words.now) ≡ Ok typed) }
+    ensures fault { IfErr result (λ e. (typed_named name.now (views words.now) ≡ Err e)
+        ⊎ (e ≡ LineError.NoMemory)) }
+{
+    if name == "view" {
+        return viewed(words);
+    }
+    if name == "push" {
+        return pushed(alloc, words);
+    }
+    Ok(Typed::Order(order_of_name(alloc, name, words)?))
+}
+
+// What a JSON value asks for.
+fn typed_of_value(alloc: Global, value: &Value) -> Result<Typed, LineError>
+    ensures ok { IfOk result (λ typed. typed_of_data (data_of value.now) ≡ Ok typed) }
+    ensures fault { IfErr result (λ e. (typed_of_data (data_of value.now) ≡ Err e)
+        ⊎ (e ≡ LineError.NoMemory)) }
+{
+    match parts_of(value) {
+        Some((name, words)) => typed_of_name(alloc, name, words),
+        None => Err(LineError::Bad),
+    }
+}
+
+impl Typed {
+    /// Reads a line, without the line feed at its end. The form of the whole line is looked at
+    /// first, then its words in their order.
+    ///
+    /// # Errors
+    ///
+    /// As of [`Order::read`].
+    pub fn read(alloc: Global, bytes: &[u8]) -> Result<Typed, LineError>
+        ensures ok { IfOk result (λ typed. typed_of_bytes bytes.now ≡ Ok typed) }
+        ensures fault { IfErr result (λ e. (typed_of_bytes bytes.now ≡ Err e)
+            ⊎ (e ≡ LineError.NoMemory)) }
+    {
+        typed_of_value(alloc, &value_of(alloc, bytes)?)
+    }
+}
+
+// ---- the lines that each command takes
+
+/// The lines of a script.
+pub const SCRIPT_LINES: LinesTaken = LinesTaken {
+    words: "\
+connected, disconnected, listen, unlisten, set, update, remove, onDisconnect, close, data, merge, parts, \
+ok, no, revoke, server, view, cover, out and push",
+    forms: &[
+        ("connected", "[\"connected\"]"),
+        ("disconnected", "[\"disconnected\"]"),
+        ("listen", "[\"listen\",SEAT,PATH,[CALL,..]]"),
+        ("unlisten", "[\"unlisten\",SEAT,LISTENER]"),
+        ("set", "[\"set\",SEAT,PATH,VALUE]"),
+        ("update", "[\"update\",SEAT,{PATH:VALUE,..}]"),
+        ("remove", "[\"remove\",SEAT,PATH]"),
+        (
+            "onDisconnect",
+            "[\"onDisconnect\",SEAT,\"set\",PATH,VALUE], or with \"update\",{PATH:VALUE,..}, with \
+\"remove\",PATH or with \"cancel\",PATH",
+        ),
+        ("close", "[\"close\",SEAT]"),
+        ("data", "[\"data\",TAG,PATH,VALUE]"),
+        ("merge", "[\"merge\",TAG,{PATH:VALUE,..}]"),
+        ("parts", "[\"parts\",[[TAG,{PATH:VALUE,..}],..]]"),
+        ("ok", "[\"ok\",REQUEST]"),
+        ("no", "[\"no\",REQUEST,REASON]"),
+        ("revoke", "[\"revoke\",TAG,REASON]"),
+        ("server", "[\"server\",TEXT]"),
+        ("view", "[\"view\",LISTENER]"),
+        ("cover", "[\"cover\"]"),
+        ("out", "[\"out\"]"),
+        ("push", "[\"push\",MS,[RANDOM,..]], with twelve numbers"),
+    ],
+};
+
+/// The lines of a client that is driven.
+pub const CONNECT_LINES: LinesTaken = LinesTaken {
+    words: "\
+listen, unlisten, set, update, remove, onDisconnect, close, cover and read",
+    forms: &[
+        ("listen", "[\"listen\",SEAT,PATH,[CALL,..]]"),
+        ("unlisten", "[\"unlisten\",SEAT,LISTENER]"),
+        ("set", "[\"set\",SEAT,PATH,VALUE]"),
+        ("update", "[\"update\",SEAT,{PATH:VALUE,..}]"),
+        ("remove", "[\"remove\",SEAT,PATH]"),
+        (
+            "onDisconnect",
+            "[\"onDisconnect\",SEAT,\"set\",PATH,VALUE], or with \"update\",{PATH:VALUE,..}, with \
+\"remove\",PATH or with \"cancel\",PATH",
+        ),
+        ("close", "[\"close\",SEAT]"),
+        ("cover", "[\"cover\"]"),
+        ("read", "[\"read\",N], with N from 1 to 1000"),
+    ],
+};
+
+/// The lines of a client that is watched.
+pub const WATCH_LINES: LinesTaken = LinesTaken {
+    words: "\
+listen, unlisten, set, update, remove, onDisconnect, close, cover, view and push",
+    forms: &[
+        ("listen", "[\"listen\",SEAT,PATH,[CALL,..]]"),
+        ("unlisten", "[\"unlisten\",SEAT,LISTENER]"),
+        ("set", "[\"set\",SEAT,PATH,VALUE]"),
+        ("update", "[\"update\",SEAT,{PATH:VALUE,..}]"),
+        ("remove", "[\"remove\",SEAT,PATH]"),
+        (
+            "onDisconnect",
+            "[\"onDisconnect\",SEAT,\"set\",PATH,VALUE], or with \"update\",{PATH:VALUE,..}, with \
+\"remove\",PATH or with \"cancel\",PATH",
+        ),
+        ("close", "[\"close\",SEAT]"),
+        ("cover", "[\"cover\"]"),
+        ("view", "[\"view\",LISTENER]"),
+        ("push", "[\"push\",SEAT,PATH,VALUE]"),
+    ],
+};

@@ -13,7 +13,7 @@ use Rattle.rt_link.specs.declared.connection.Turn.{Turn}
 use Rattle.rt_link.specs.declared.connection.Turn.TheVariants as turn
 use Rattle.rt_link.specs.declared.link.Parting.{Parting}
 use Rattle.rt_link.specs.declared.link.Parting.TheVariants.{Over}
-use Rattle.rt_link.specs.declared.taking.Passed.{Passed}
+use Rattle.rt_link.specs.declared.turn.Passed.{Passed}
 
 -- it is left, the server told of it or not
 pub left_so : (is_said : Bool) (new : Standing) → new ≡ left_standing is_said → Closes Open new

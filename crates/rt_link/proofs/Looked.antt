@@ -13,7 +13,7 @@ use Rattle.rt_client.specs.declared.error.ClientError.{ClientError}
 use Rattle.rt_client.specs.declared.error.ClientError.TheVariants as client
 use Rattle.rt_link.specs.Answering.{answer_among, answer_in, behind_answer, Answers, IsSilent, RefusesAnswering}
 use Rattle.rt_link.specs.inside.Trials.{IsSettled}
-use Rattle.rt_link.specs.declared.answering.Answer.{Answer}
+use Rattle.rt_link.specs.declared.answers.Answer.{Answer}
 
 -- ---- items that say nothing
 

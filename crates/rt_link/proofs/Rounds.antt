@@ -10,8 +10,8 @@ use Rattle.rt_client.specs.Waiting.{HasRefusal}
 use Rattle.rt_client.specs.declared.error.ClientError.{ClientError}
 use Rattle.rt_client.specs.declared.error.ClientError.TheVariants as client
 use Rattle.rt_socket.specs.Reading.{ReadsMost}
-use Rattle.rt_socket.specs.declared.batch.Pause.{Pause}
-use Rattle.rt_socket.specs.declared.batch.Pause.TheVariants as pause
+use Rattle.rt_socket.specs.declared.wire.Pause.{Pause}
+use Rattle.rt_socket.specs.declared.wire.Pause.TheVariants as pause
 use Rattle.rt_socket.specs.declared.wire.Flushed.{Flushed}
 use Rattle.rt_socket.specs.declared.wire.Heard.{Heard}
 use Rattle.rt_socket.specs.declared.wire.Said.{Said}
@@ -21,10 +21,10 @@ use Rattle.rt_link.specs.inside.Rounds.{held_up, AnswersTurn, HearsTurn, Refuses
 use Rattle.rt_link.specs.inside.Rounds.{SaysAll, SaysLast, SaysNext, SaysRound, SaysRounds, SaysTurn}
 use Rattle.rt_link.specs.declared.error.LinkFault.{LinkFault}
 use Rattle.rt_link.specs.declared.error.LinkFault.TheVariants as fault
-use Rattle.rt_link.specs.declared.taking.Passed.{Passed}
-use Rattle.rt_link.specs.declared.turning.Sent.{Sent}
-use Rattle.rt_link.specs.declared.turning.Sent.TheVariants as sent
-use Rattle.rt_link.specs.declared.turning.TheConstants.{BATCH, ROUNDS}
+use Rattle.rt_link.specs.declared.turn.Passed.{Passed}
+use Rattle.rt_link.specs.declared.turn.SentOff.{SentOff}
+use Rattle.rt_link.specs.declared.turn.SentOff.TheVariants as sent
+use Rattle.rt_link.specs.declared.turn.TheConstants.{BATCH, ROUNDS}
 
 -- ---- what is heard
 
@@ -71,7 +71,7 @@ pub ruleset all_heard = (heard_none, heard_some, untaken)
 
 -- ---- what is said
 
-pub next_said : (old new : Locked) (messages : List ClientMessage) (s : Sent) (had has : Option (List (List ℕ)))
+pub next_said : (old new : Locked) (messages : List ClientMessage) (s : SentOff) (had has : Option (List (List ℕ)))
     → TakesBatch BATCH old messages new → SaysAll messages s had has → SaysNext old s had has
 next_said old new messages s had has taken said = (messages, new, taken, said)
 
@@ -85,11 +85,11 @@ pub ruleset all_next = (next_said, not_next)
 
 -- ---- round by round
 
-pub held_round : (flushed : Flushed) (s : Sent) (had has : Option (List (List ℕ))) → held_up flushed ≡ Some s
+pub held_round : (flushed : Flushed) (s : SentOff) (had has : Option (List (List ℕ))) → held_up flushed ≡ Some s
     → has ≡ had → SaysRound s had has
 held_round flushed s had has held same = inl (flushed, held, same)
 
-pub next_round : (old : Locked) (s : Sent) (had mid has : Option (List (List ℕ))) → mid ≡ had
+pub next_round : (old : Locked) (s : SentOff) (had mid has : Option (List (List ℕ))) → mid ≡ had
     → SaysNext old s mid has → SaysRound s had has
 next_round old s had mid has same said = inr (old, subst (λ x. SaysNext old s x has) same said)
 
@@ -105,7 +105,7 @@ pub one_more_round : (count : ℕ) (had mid has : Option (List (List ℕ))) → 
 one_more_round count had mid has first last =
     subst (λ n. SaysRounds n had has) (sym (add-one count)) (mid, first, last)
 
-pub last_round : (count : ℕ) (s : Sent) (had mid has : Option (List (List ℕ))) → count < ROUNDS
+pub last_round : (count : ℕ) (s : SentOff) (had mid has : Option (List (List ℕ))) → count < ROUNDS
     → SaysRounds count had mid → SaysRound s mid has → SaysLast s had has
 last_round count s had mid has few first last = record {
   count = count;
@@ -122,7 +122,7 @@ all_rounds count had has all made = (count, all, made)
 
 pub ruleset all_turn = (one_more_round, last_round, all_rounds)
 
-pub more_answered : (said s : Sent) (had has : Option (List (List ℕ))) → s ≡ is_there_more said
+pub more_answered : (said s : SentOff) (had has : Option (List (List ℕ))) → s ≡ is_there_more said
     → SaysTurn said had has → AnswersTurn pause.More s had has
 more_answered said s had has is made = (said, is, made)
 

@@ -4,7 +4,7 @@ use Rattle.rt_wire.specs.declared.error.WireError.{WireError}
 use Rattle.rt_wire.specs.declared.server.ServerMessage.{ServerMessage}
 use Rattle.rt_client.specs.Calls.{Locked}
 use Rattle.rt_link.specs.Taking.{TakesAll}
-use Rattle.rt_link.specs.declared.taking.Passed.{Passed}
+use Rattle.rt_link.specs.declared.turn.Passed.{Passed}
 
 -- what is left to take, after so many were passed over, makes all of it
 abbrev pub Goes : List (Result ServerMessage WireError) → Locked → List Passed

@@ -11,18 +11,18 @@ use Rattle.rt_mail.specs.Mirrors.{has_failed, Takes}
 use Rattle.rt_mail.specs.declared.error.MailError.{MailError}
 use Rattle.rt_mail.specs.declared.error.MailError.TheVariants as mail
 use Rattle.rt_mail.specs.Lanes.{Ring}
-use Rattle.rt_world.specs.declared.call.Call.{Call}
+use Rattle.rt_world.specs.declared.step.Call.{Call}
 use Rattle.rt_client.specs.Lanes.{due}
 use Rattle.rt_client.specs.Calls.{Locked, Seated, handed_back}
 use Rattle.rt_client.specs.Delivery.{emptied, RefusesTurn}
 use Rattle.rt_client.specs.Settling.{RefusesSettle}
-use Rattle.rt_client.specs.declared.done.Done.{Done}
+use Rattle.rt_client.specs.declared.shared.Done.{Done}
 use Rattle.rt_client.specs.Waiting.{IsDone, IsUnmade}
 use Rattle.rt_client.specs.declared.error.ClientError.{ClientError}
 use Rattle.rt_client.specs.declared.error.ClientError.TheVariants as client
 use Rattle.rt_link.specs.Answering.{tallied, Hears, HearsAll, IsSameSeat, RefusesHearing, IsDoneBehind, IsUnmadeBehind}
 use Rattle.rt_link.specs.inside.Trials.{tried_of, IsSettled, Tries}
-use Rattle.rt_link.specs.declared.hearing.Answered.{Answered}
+use Rattle.rt_link.specs.declared.answers.Answered.{Answered}
 
 -- ---- the items of a ring
 

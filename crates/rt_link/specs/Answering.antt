@@ -3,21 +3,21 @@ use Rattle.std.specs.Prelude.{◌≡◌, ◌⊎◌, ◌==◌, ◌+◌, ℕ, min,
 use Rattle.std.specs.Prelude.{Option, Some, None, IsTrue, is_some}
 use Rattle.std.specs.List.{fold}
 use Rattle.std.specs.Option.{option_or}
-use Rattle.rt_wire.specs.declared.reason.Reason.{Reason}
-use Rattle.rt_world.specs.declared.call.Call.{Call}
-use Rattle.rt_world.specs.declared.call.Call.TheVariants as call
+use Rattle.rt_wire.specs.declared.request.Reason.{Reason}
+use Rattle.rt_world.specs.declared.step.Call.{Call}
+use Rattle.rt_world.specs.declared.step.Call.TheVariants as call
 use Rattle.rt_mail.specs.declared.item.Item.{Item}
 use Rattle.rt_mail.specs.declared.item.Item.TheVariants as item
 use Rattle.rt_mail.specs.Mailbox.{Known, known_of}
-use Rattle.rt_client.specs.declared.done.Done.{Done}
+use Rattle.rt_client.specs.declared.shared.Done.{Done}
 use Rattle.rt_client.specs.declared.error.ClientError.{ClientError}
 use Rattle.rt_client.specs.declared.error.ClientError.TheVariants as client
 use Rattle.rt_client.specs.Calls.{Seated}
 use Rattle.rt_client.specs.Delivery.{emptied}
 use Rattle.rt_client.specs.Waiting.{IsDone, IsUnmade}
-use Rattle.rt_link.specs.declared.answering.Answer.{Answer}
-use Rattle.rt_link.specs.declared.answering.Answer.TheVariants as answer
-use Rattle.rt_link.specs.declared.hearing.Answered.{Answered}
+use Rattle.rt_link.specs.declared.answers.Answer.{Answer}
+use Rattle.rt_link.specs.declared.answers.Answer.TheVariants as answer
+use Rattle.rt_link.specs.declared.answers.Answered.{Answered}
 
 -- the server has done it, or refuses it for a reason
 abbrev pub settled_by : Option Reason → Answer

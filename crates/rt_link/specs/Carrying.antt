@@ -1,11 +1,11 @@
 -- Where a connection stands, and what a turn and a close make of that.
 use Rattle.std.specs.Prelude.{◌≡◌, ◌≢◌, ◌⊎◌, ◌++◌, ⊤, Bool, true, false, List, []}
-use Rattle.rt_link.specs.declared.connection.Stage.{Stage}
-use Rattle.rt_link.specs.declared.connection.Stage.TheVariants as stage
+use Rattle.rt_link.specs.declared.connection.LinkStage.{LinkStage}
+use Rattle.rt_link.specs.declared.connection.LinkStage.TheVariants as stage
 use Rattle.rt_link.specs.declared.connection.Turn.{Turn}
 use Rattle.rt_link.specs.declared.connection.Turn.TheVariants as turn
 use Rattle.rt_socket.specs.declared.lost.Lost.TheVariants as lost
-use Rattle.rt_link.specs.declared.taking.Passed.{Passed}
+use Rattle.rt_link.specs.declared.turn.Passed.{Passed}
 
 -- its handshake is not done, or it stands; the client has said that it goes; it is gone
 pub data Standing : Type 0 where
@@ -29,7 +29,7 @@ is_open Gone = false
 abbrev pub begun : Carried
 begun = record { standing = Shaking; passed = [] }
 
-abbrev pub standing_of : {S N : Type 0} → Stage S N → Standing
+abbrev pub standing_of : {S N : Type 0} → LinkStage S N → Standing
 standing_of (stage.Shaking mid) = Shaking
 standing_of (stage.Open socket) = Open
 standing_of (stage.Closing socket) = Closing

@@ -4,13 +4,13 @@ use Rattle.rt_push.specs.Digits.{number}
 use Rattle.rt_push.specs.PushIds.{push_id, used}
 use Rattle.rt_tree.specs.PathTree.{Path, PathTree}
 use Rattle.rt_wire.specs.declared.request.Action.TheVariants.{Put}
-use Rattle.rt_world.specs.declared.call.Call.TheVariants.{Write}
+use Rattle.rt_world.specs.declared.step.Call.TheVariants.{Write}
 use Rattle.rt_client.specs.declared.error.ClientError.{ClientError}
 use Rattle.rt_client.specs.Calls.{Locked, Seated}
 use Rattle.rt_client.specs.Waiting.{IsNumbered, IsUnmade}
-use Rattle.rt_link.specs.declared.pushing.Pushed.{Pushed}
-use Rattle.rt_link.specs.declared.pushing.Unpushed.{Unpushed}
-use Rattle.rt_link.specs.declared.pushing.Unpushed.TheVariants as unpushed
+use Rattle.rt_link.specs.declared.push.Pushed.{Pushed}
+use Rattle.rt_link.specs.declared.push.Unpushed.{Unpushed}
+use Rattle.rt_link.specs.declared.push.Unpushed.TheVariants as unpushed
 
 -- a key is the push id that a locked value gives for some moment and some random digits
 pub record IsPushKey (key : List ℕ) : Type 0 where

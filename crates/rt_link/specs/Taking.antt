@@ -12,8 +12,8 @@ use Rattle.rt_client.specs.Calls.{Comes, Locked, RefusesOn}
 use Rattle.rt_client.specs.Shared.{Held}
 use Rattle.rt_client.specs.declared.error.ClientError.{ClientError}
 use Rattle.rt_client.specs.declared.error.ClientError.TheVariants as client
-use Rattle.rt_link.specs.declared.taking.Passed.{Passed}
-use Rattle.rt_link.specs.declared.taking.Passed.TheVariants.{Wire, Core}
+use Rattle.rt_link.specs.declared.turn.Passed.{Passed}
+use Rattle.rt_link.specs.declared.turn.Passed.TheVariants.{Wire, Core}
 
 -- ---- messages of the server
 

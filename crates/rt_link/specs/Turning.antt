@@ -2,8 +2,8 @@
 use Rattle.std.specs.Prelude.{◌≡◌, ◌*◌, ℕ, ◌==◌, if◌then◌else◌, ⊤, Bool, true, false, Result, Ok, Err}
 use Rattle.std.specs.declared.time.Duration.{Duration}
 use Rattle.std.specs.Duration.{as_nanos}
-use Rattle.rt_socket.specs.declared.batch.Pause.{Pause}
-use Rattle.rt_socket.specs.declared.batch.Pause.TheVariants as pause
+use Rattle.rt_socket.specs.declared.wire.Pause.{Pause}
+use Rattle.rt_socket.specs.declared.wire.Pause.TheVariants as pause
 use Rattle.rt_socket.specs.declared.lost.Lost.TheVariants as lost
 use Rattle.rt_socket.specs.declared.patience.Patience.{Patience}
 use Rattle.rt_socket.specs.declared.patience.Patience.TheVariants as patience
@@ -15,10 +15,10 @@ use Rattle.rt_link.specs.declared.error.LinkFault.{LinkFault}
 use Rattle.rt_link.specs.declared.link.Parting.{Parting}
 use Rattle.rt_link.specs.declared.link.Parting.TheVariants as parting
 use Rattle.rt_link.specs.declared.link.LinkEnd.TheVariants as ending
-use Rattle.rt_link.specs.declared.link.Next.{Next}
-use Rattle.rt_link.specs.declared.link.Next.TheVariants.{GoOn, Sleep, End}
-use Rattle.rt_link.specs.declared.turning.Sent.{Sent}
-use Rattle.rt_link.specs.declared.turning.Sent.TheVariants as sent
+use Rattle.rt_link.specs.declared.link.LinkNext.{LinkNext}
+use Rattle.rt_link.specs.declared.link.LinkNext.TheVariants.{GoOn, Sleep, End}
+use Rattle.rt_link.specs.declared.turn.SentOff.{SentOff}
+use Rattle.rt_link.specs.declared.turn.SentOff.TheVariants as sent
 
 -- a stream is idle only where more of its bytes may be read, and none are there
 abbrev pub paced : ℕ → Pause → Pause
@@ -33,13 +33,13 @@ is_sent flush.Blocked = true
 is_sent (flush.Failed why) = false
 
 -- where more is to be read there may be more, unless the wire takes nothing any more
-abbrev pub is_there_more : Sent → Sent
+abbrev pub is_there_more : SentOff → SentOff
 is_there_more sent.Done = sent.More
 is_there_more sent.More = sent.More
 is_there_more (sent.Lost why) = sent.Lost why
 
 -- what a run does after a turn: it ends where it was told to stop, or where the connection ends
-abbrev pub next : Turn → Bool → Next
+abbrev pub next : Turn → Bool → LinkNext
 next t true = End ending.Stopped
 next (turn.Idle most) false = Sleep most
 next turn.More false = GoOn

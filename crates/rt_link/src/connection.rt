@@ -7,8 +7,7 @@ ghost use Rattle.rt_link.specs.declared.connection.Turn.TheVariants.{Ended};
 ghost use Rattle.rt_link.specs.Carrying.{begun, is_open, left_standing, standing_of, Closing, Gone, Open, Shaking};
 
 use crate::error::LinkFault;
-use crate::taking::Passed;
-use crate::turning::{BATCH, Sent, answer_turn, hear_turn, paced};
+use crate::turn::{BATCH, Passed, SentOff, answer_turn, hear_turn, paced};
 use rt_client::Client;
 use rt_socket::{
     Batch, Flushed, Lost, Paced, Patience, Pause, Socket, Wire, for_end, for_handshake,
@@ -37,7 +36,7 @@ type Shaking<S, N> = MidHandshake<ClientHandshake<Paced<S>, RandomKeys<N>>>;
 type ClientSocket<S, N> = Socket<Paced<S>, RandomKeys<N>>;
 
 // Where a connection stands.
-enum Stage<S: Read + Write + Drop, N: RandomSource + Drop> {
+enum LinkStage<S: Read + Write + Drop, N: RandomSource + Drop> {
     Shaking(Shaking<S, N>),
     Open(ClientSocket<S, N>),
     // The client has said that it goes.
@@ -45,10 +44,11 @@ enum Stage<S: Read + Write + Drop, N: RandomSource + Drop> {
     Gone,
 }
 
-impl<S: Read + Write + Drop, N: RandomSource + Drop> Drop for Stage<S, N> {
+impl<S: Read + Write + Drop, N: RandomSource + Drop> Drop for LinkStage<S, N> {
     fn drop(self) {
         match self {
-            Stage::Shaking(_) | Stage::Open(_) | Stage::Closing(_) | Stage::Gone => {}
+            LinkStage::Shaking(_) | LinkStage::Open(_) | LinkStage::Closing(_) | LinkStage::Gone =>
+                {}
         }
     }
 }
@@ -57,37 +57,37 @@ impl<S: Read + Write + Drop, N: RandomSource + Drop> Drop for Stage<S, N> {
 fn shake_on<S: Read + Write + Drop, N: RandomSource + Drop>(
     alloc: Global,
     mut mid: Shaking<S, N>,
-) -> Result<Stage<S, N>, Result<Lost, AllocError>> {
+) -> Result<LinkStage<S, N>, Result<Lost, AllocError>> {
     mid.get_mut().allow(TURN_BYTES);
     match mid.handshake() {
         Ok((socket, response)) => {
             drop(response);
-            Ok(Stage::Open(Socket::new(alloc, socket)))
+            Ok(LinkStage::Open(Socket::new(alloc, socket)))
         }
-        Err(HandshakeError::Interrupted(mid)) => Ok(Stage::Shaking(mid)),
+        Err(HandshakeError::Interrupted(mid)) => Ok(LinkStage::Shaking(mid)),
         Err(HandshakeError::Failure(why)) => Err(unopened(why)),
     }
 }
 
-impl<S: Read + Write + Drop, N: RandomSource + Drop> Stage<S, N> {
+impl<S: Read + Write + Drop, N: RandomSource + Drop> LinkStage<S, N> {
     // Goes on with the handshake, if that is where it is.
-    fn shaken(self, alloc: Global) -> Result<Stage<S, N>, Result<Lost, AllocError>> {
+    fn shaken(self, alloc: Global) -> Result<LinkStage<S, N>, Result<Lost, AllocError>> {
         match self {
-            Stage::Shaking(mid) => shake_on(alloc, mid),
-            Stage::Open(socket) => Ok(Stage::Open(socket)),
-            Stage::Closing(socket) => Ok(Stage::Closing(socket)),
-            Stage::Gone => Ok(Stage::Gone),
+            LinkStage::Shaking(mid) => shake_on(alloc, mid),
+            LinkStage::Open(socket) => Ok(LinkStage::Open(socket)),
+            LinkStage::Closing(socket) => Ok(LinkStage::Closing(socket)),
+            LinkStage::Gone => Ok(LinkStage::Gone),
         }
     }
 
     // The client has said that it goes.
-    fn into_closing(self) -> Stage<S, N>
+    fn into_closing(self) -> LinkStage<S, N>
         ensures { standing_of self ≡ Open → standing_of result ≡ Closing }
     {
         match self {
-            Stage::Open(socket) | Stage::Closing(socket) => Stage::Closing(socket),
-            Stage::Shaking(mid) => Stage::Shaking(mid),
-            Stage::Gone => Stage::Gone,
+            LinkStage::Open(socket) | LinkStage::Closing(socket) => LinkStage::Closing(socket),
+            LinkStage::Shaking(mid) => LinkStage::Shaking(mid),
+            LinkStage::Gone => LinkStage::Gone,
         }
     }
 }
@@ -109,7 +109,7 @@ pub enum Turn {
 /// it has told of a connection is told of its end by [`Connection::close`], if no turn did so before.
 pub struct Connection<S: Read + Write + Drop, N: RandomSource + Drop> {
     alloc: Global,
-    stage: Stage<S, N>,
+    stage: LinkStage<S, N>,
     // When something came last, and whether the server was asked since whether it is there.
     heard: Instant,
     is_asked: bool,
@@ -249,7 +249,7 @@ impl<S: Read + Write + Drop, N: RandomSource + Drop> Connection<S, N> {
         };
         Ok(Ok(Connection {
             alloc,
-            stage: Stage::Shaking(mid),
+            stage: LinkStage::Shaking(mid),
             heard,
             is_asked: false,
             passed: Vec::new(alloc),
@@ -261,8 +261,8 @@ impl<S: Read + Write + Drop, N: RandomSource + Drop> Connection<S, N> {
         ensures { result ≡ is_open self.now.standing }
     {
         match &self.stage {
-            Stage::Open(_) => true,
-            Stage::Shaking(_) | Stage::Closing(_) | Stage::Gone => false,
+            LinkStage::Open(_) => true,
+            LinkStage::Shaking(_) | LinkStage::Closing(_) | LinkStage::Gone => false,
         }
     }
 
@@ -289,10 +289,10 @@ impl<S: Read + Write + Drop, N: RandomSource + Drop> Connection<S, N> {
         ensures failed { IfErr result (λ e. Fails self.old.standing self.new.standing) }
     {
         match &self.stage {
-            Stage::Shaking(_) => self.shake(rt, client),
-            Stage::Open(_) => self.carry(rt, client),
-            Stage::Closing(_) => self.see_off(rt),
-            Stage::Gone => Ok(Turn::NotOpened(Lost::Closed)),
+            LinkStage::Shaking(_) => self.shake(rt, client),
+            LinkStage::Open(_) => self.carry(rt, client),
+            LinkStage::Closing(_) => self.see_off(rt),
+            LinkStage::Gone => Ok(Turn::NotOpened(Lost::Closed)),
         }
     }
 
@@ -302,7 +302,7 @@ impl<S: Read + Write + Drop, N: RandomSource + Drop> Connection<S, N> {
         ensures stands { IfOk result (λ turn. Shakes turn self.new.standing) }
         ensures passed { self.new.passed ≡ self.old.passed }
     {
-        let stage = std::mem::replace(&mut self.stage, Stage::Gone);
+        let stage = std::mem::replace(&mut self.stage, LinkStage::Gone);
         match stage.shaken(self.alloc) {
             Ok(stage) => self.shaken(rt, client, stage),
             Err(why) => not_opened(why),
@@ -314,7 +314,7 @@ impl<S: Read + Write + Drop, N: RandomSource + Drop> Connection<S, N> {
         &mut self,
         rt: &R,
         client: &Client,
-        stage: Stage<S, N>,
+        stage: LinkStage<S, N>,
     ) -> Result<Turn, LinkFault>
         ensures failed { IfErr result (λ e. Fails Shaking self.new.standing) }
         ensures stands { IfOk result (λ turn. Shakes turn self.new.standing) }
@@ -322,10 +322,10 @@ impl<S: Read + Write + Drop, N: RandomSource + Drop> Connection<S, N> {
     {
         self.stage = stage;
         match &self.stage {
-            Stage::Open(_) => self.open(rt, client),
-            Stage::Shaking(_) => self.await_hands(rt),
-            Stage::Closing(_) | Stage::Gone => {
-                self.stage = Stage::Gone;
+            LinkStage::Open(_) => self.open(rt, client),
+            LinkStage::Shaking(_) => self.await_hands(rt),
+            LinkStage::Closing(_) | LinkStage::Gone => {
+                self.stage = LinkStage::Gone;
                 Ok(Turn::NotOpened(Lost::Closed))
             }
         }
@@ -340,7 +340,7 @@ impl<S: Read + Write + Drop, N: RandomSource + Drop> Connection<S, N> {
         ensures passed { self.new.passed ≡ self.old.passed }
     {
         if let Err(why) = client.connected(rt) {
-            self.stage = Stage::Gone;
+            self.stage = LinkStage::Gone;
             return Err(LinkFault::Client(why));
         }
         self.heard = Instant::now(rt)?;
@@ -357,7 +357,7 @@ impl<S: Read + Write + Drop, N: RandomSource + Drop> Connection<S, N> {
         match millis_since(rt, self.heard) {
             Ok(silent) => Ok(self.wait_for(for_handshake(silent))),
             Err(why) => {
-                self.stage = Stage::Gone;
+                self.stage = LinkStage::Gone;
                 Err(why)
             }
         }
@@ -371,7 +371,7 @@ impl<S: Read + Write + Drop, N: RandomSource + Drop> Connection<S, N> {
         match patience {
             Patience::Wait(millis) => Turn::Idle(Duration::from_millis(millis)),
             Patience::Ping | Patience::GiveUp => {
-                self.stage = Stage::Gone;
+                self.stage = LinkStage::Gone;
                 Turn::NotOpened(Lost::Late)
             }
         }
@@ -386,20 +386,20 @@ impl<S: Read + Write + Drop, N: RandomSource + Drop> Connection<S, N> {
             → IfErr result (λ e. Fails Open self.new.standing) }
     {
         match self.exchange(rt, client)? {
-            Sent::Done => self.be_patient(rt, client),
-            Sent::More => Ok(Turn::More),
-            Sent::Lost(why) => self.end(rt, client, why),
+            SentOff::Done => self.be_patient(rt, client),
+            SentOff::More => Ok(Turn::More),
+            SentOff::Lost(why) => self.end(rt, client, why),
         }
     }
 
     // Reads, and sends what the client has to send.
-    fn exchange<R: Wait + Clock>(&mut self, rt: &R, client: &Client) -> Result<Sent, LinkFault>
+    fn exchange<R: Wait + Clock>(&mut self, rt: &R, client: &Client) -> Result<SentOff, LinkFault>
         ensures stands { self.new.standing ≡ self.old.standing }
         ensures passed { OnOk result (PassesOver self.old self.new.passed) }
     {
         let now = Instant::now(rt)?;
-        let Stage::Open(socket) = &mut self.stage else {
-            return Ok(Sent::Lost(Lost::Closed));
+        let LinkStage::Open(socket) = &mut self.stage else {
+            return Ok(SentOff::Lost(Lost::Closed));
         };
         socket.allow(TURN_BYTES);
         let pause = hear_turn(rt, self.alloc, client, socket, &mut self.passed)?;
@@ -434,7 +434,7 @@ impl<S: Read + Write + Drop, N: RandomSource + Drop> Connection<S, N> {
         ensures failed { self.old.standing ≡ Open
             → IfErr result (λ e. Fails Open self.new.standing) }
     {
-        let Stage::Open(socket) = &mut self.stage else {
+        let LinkStage::Open(socket) = &mut self.stage else {
             return Ok(Turn::NotOpened(Lost::Closed));
         };
         self.is_asked = true;
@@ -451,7 +451,7 @@ impl<S: Read + Write + Drop, N: RandomSource + Drop> Connection<S, N> {
         ensures ended { IfOk result (λ turn. turn ≡ Ended why) }
         ensures refused { IfErr result RefusesEnd }
     {
-        self.stage = Stage::Gone;
+        self.stage = LinkStage::Gone;
         match client.disconnected(rt) {
             Ok(_) => Ok(Turn::Ended(why)),
             Err(fault) => {
@@ -471,7 +471,7 @@ impl<S: Read + Write + Drop, N: RandomSource + Drop> Connection<S, N> {
     {
         let heard = self.hear_off(rt);
         if !is_awaited(&heard) {
-            self.stage = Stage::Gone;
+            self.stage = LinkStage::Gone;
         }
         heard
     }
@@ -483,7 +483,7 @@ impl<S: Read + Write + Drop, N: RandomSource + Drop> Connection<S, N> {
         ensures parts { IfOk result Parts }
     {
         let patience = for_end(millis_since(rt, self.heard)?);
-        let Stage::Closing(socket) = &mut self.stage else {
+        let LinkStage::Closing(socket) = &mut self.stage else {
             return Ok(Turn::Ended(Lost::Closed));
         };
         socket.allow(TURN_BYTES);
@@ -508,12 +508,12 @@ impl<S: Read + Write + Drop, N: RandomSource + Drop> Connection<S, N> {
         ensures passed { self.new.passed ≡ self.old.passed }
     {
         match &self.stage {
-            Stage::Open(_) => self.leave(rt, client),
-            Stage::Shaking(_) => {
-                self.stage = Stage::Gone;
+            LinkStage::Open(_) => self.leave(rt, client),
+            LinkStage::Shaking(_) => {
+                self.stage = LinkStage::Gone;
                 Ok(())
             }
-            Stage::Closing(_) | Stage::Gone => Ok(()),
+            LinkStage::Closing(_) | LinkStage::Gone => Ok(()),
         }
     }
 
@@ -535,8 +535,8 @@ impl<S: Read + Write + Drop, N: RandomSource + Drop> Connection<S, N> {
         ensures { self.new ≡ self.old }
     {
         match &mut self.stage {
-            Stage::Open(socket) => is_sent(socket.close(None)),
-            Stage::Shaking(_) | Stage::Closing(_) | Stage::Gone => false,
+            LinkStage::Open(socket) => is_sent(socket.close(None)),
+            LinkStage::Shaking(_) | LinkStage::Closing(_) | LinkStage::Gone => false,
         }
     }
 
@@ -545,7 +545,7 @@ impl<S: Read + Write + Drop, N: RandomSource + Drop> Connection<S, N> {
         ensures left { self.old.standing ≡ Open → self.new.standing ≡ left_standing is_said }
         ensures passed { self.new.passed ≡ self.old.passed }
     {
-        let stage = std::mem::replace(&mut self.stage, Stage::Gone);
+        let stage = std::mem::replace(&mut self.stage, LinkStage::Gone);
         if is_said {
             self.stage = stage.into_closing();
         } else {

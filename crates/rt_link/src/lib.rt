@@ -21,30 +21,23 @@
 //! [`Link::connect`] and [`Connection::turn`] are the parts that `run` is made of, for a loop of one's own.
 #![tactic(auto)]
 
-mod answering;
-mod beside;
+mod answers;
 mod connection;
-mod crossing;
 mod error;
-mod giving;
-mod hearing;
+mod laws;
 mod link;
 mod linked;
-mod pushing;
-mod seeing;
-mod taking;
-mod turning;
-mod waiting;
+mod push;
+mod turn;
 
-pub use answering::Answer;
+pub use answers::{Answer, Answered};
 pub use connection::{Connection, Turn};
-pub use crossing::link_crossing_law;
 pub use error::LinkFault;
-pub use hearing::Answered;
+pub use laws::link_crossing_law;
 pub use link::{Link, LinkEnd};
 pub use linked::{Bell, Linked};
-pub use pushing::{Pushed, Unpushed};
+pub use push::{Pushed, Unpushed};
 pub use rt_socket::{
     Batch, Flushed, Heard, Lost, Pause, Said, SocketFault, Wire, hear_all, say_all,
 };
-pub use taking::{Passed, take_all, take_batch};
+pub use turn::{Passed, take_all, take_batch};

@@ -50,7 +50,7 @@ impl fmt::Display for LinkEnd {
 
 // What a run does after a turn.
 #[derive(Drop)]
-enum Next {
+enum LinkNext {
     // The next turn, at once.
     GoOn,
     // It sleeps, so long at most.
@@ -60,17 +60,17 @@ enum Next {
 }
 
 // What a run does after a turn, told to stop or not.
-fn next_of(turn: Turn, is_stopped: bool) -> Next
+fn next_of(turn: Turn, is_stopped: bool) -> LinkNext
     ensures { result ≡ next turn is_stopped }
 {
     if is_stopped {
-        return Next::End(LinkEnd::Stopped);
+        return LinkNext::End(LinkEnd::Stopped);
     }
     match turn {
-        Turn::Idle(most) => Next::Sleep(most),
-        Turn::More => Next::GoOn,
-        Turn::NotOpened(why) => Next::End(LinkEnd::NotOpened(why)),
-        Turn::Ended(why) => Next::End(LinkEnd::Ended(why)),
+        Turn::Idle(most) => LinkNext::Sleep(most),
+        Turn::More => LinkNext::GoOn,
+        Turn::NotOpened(why) => LinkNext::End(LinkEnd::NotOpened(why)),
+        Turn::Ended(why) => LinkNext::End(LinkEnd::Ended(why)),
     }
 }
 
@@ -240,9 +240,9 @@ impl Link {
             let turn = connection.turn(rt, &linked.client)?;
             self.note(connection.take_passed().len());
             match next_of(turn, linked.is_stopped(rt)) {
-                Next::GoOn => {}
-                Next::Sleep(most) => self.wait(most)?,
-                Next::End(ending) => return Ok(ending),
+                LinkNext::GoOn => {}
+                LinkNext::Sleep(most) => self.wait(most)?,
+                LinkNext::End(ending) => return Ok(ending),
             }
         }
         unreachable!()

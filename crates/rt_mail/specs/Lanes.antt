@@ -4,7 +4,7 @@ use Rattle.std.specs.Prelude.{min, max, if◌then◌else◌, Option, None, is_so
 use Rattle.std.specs.Option.{option_map}
 use Rattle.rt_mail.specs.declared.error.MailError.{MailError}
 use Rattle.rt_mail.specs.declared.error.MailError.TheVariants.{Failed, NoMemory}
-use Rattle.rt_mail.specs.declared.inbox.TheConstants.{MAX_CAPACITY}
+use Rattle.rt_mail.specs.declared.lane.TheConstants.{MAX_CAPACITY}
 use Rattle.rt_mail.specs.declared.item.Item.{Item}
 use Rattle.rt_mail.specs.declared.item.Item.TheVariants as item
 use Rattle.rt_mail.specs.declared.receipt.Receipt.{Receipt}

@@ -33,22 +33,17 @@
 mod error;
 pub mod examples;
 mod history;
-mod inbox;
 mod item;
-mod known;
 mod lane;
 mod laws;
 mod mirror;
 mod receipt;
-mod snapshot;
 mod snapshots;
 
 pub use error::MailError;
-pub use inbox::{Inbox, MAX_CAPACITY};
 pub use item::Item;
-pub use lane::{Lane, Unqueued};
+pub use lane::{Inbox, Lane, MAX_CAPACITY, Unqueued};
 pub use laws::{order_law, replay_law, snapshot_law};
 pub use mirror::Mirror;
 pub use receipt::Receipt;
-pub use snapshot::Snapshot;
-pub use snapshots::Snapshots;
+pub use snapshots::{Snapshot, Snapshots};

@@ -1,14 +1,21 @@
 // What one who takes all of a seat's items knows.
-ghost use Rattle.std.specs.Prelude.{◌≡◌, Some};
+ghost use Rattle.std.specs.Prelude.{◌≡◌, Some, ◌≤◌, ◌<◌, ℕ, IfOk, OnOk, length, map, slice_set};
+ghost use Rattle.std.specs.Prelude.{slice_index_or, nat_le, ◌==◌, []};
 ghost use Rattle.std.specs.Option.{option_map};
-ghost use Rattle.rt_mail.specs.Mailbox.{nothing_known};
+ghost use Rattle.std.specs.List.{find, insert, position_or_len, remove as without_at};
+ghost use Rattle.rt_mail.specs.Mailbox.{nothing_known, Children, with_request, without_request};
+ghost use Rattle.rt_mail.specs.Mailbox.{without_listener};
 ghost use Rattle.rt_mail.specs.Mirrors.{Takes, has_failed, children_in, listeners_in, requests_in};
+ghost use Rattle.rt_view.specs.Changes.{replay};
+ghost use Rattle.rt_mail.specs.inside.Places.{does_stand, after_changes, numbers_of};
+ghost use Rattle.rt_mail.specs.laws.Replays.{Rise};
 
 use crate::error::MailError;
 use crate::item::Item;
-use crate::known::Known;
+use crate::receipt::Receipt;
 use rt_tree::{Key, Tree};
-use std::alloc::Global;
+use rt_view::{Batch, Change, apply_changes};
+use std::alloc::{AllocError, Global};
 use std::collections::BTreeMap;
 use std::marker::Model;
 
@@ -99,6 +106,295 @@ impl Mirror {
         match &self.known {
             Some(known) => known.requests(),
             None => &[],
+        }
+    }
+}
+
+// ---- what is known of a seat by the items that were taken
+
+// A listener with its children.
+pub(crate) struct HeardListener {
+    listener: u64,
+    children: BTreeMap<Key, Tree>,
+}
+
+impl Drop for HeardListener {
+    fn drop(self) {
+        let HeardListener {
+            listener: _,
+            children: _,
+        } = self;
+    }
+}
+
+impl Model for HeardListener {
+    ghost use Rattle.std.specs.Prelude.{List, ℕ};
+    ghost use Rattle.std.specs.BTreeMap.{IsOrdered};
+    ghost use Rattle.rt_tree.specs.PathTree.{Key, PathTree, key_cmp};
+
+    ghost Value = { ℕ × List (Key × PathTree) };
+
+    ghost view = { λ a. (a.listener, a.children.entries) };
+
+    ghost invariant = { λ a. IsOrdered key_cmp a.children };
+}
+
+impl HeardListener {
+    // A listener without children.
+    fn new(alloc: Global, listener: u64) -> HeardListener
+        ensures { result ≡ (listener, []) }
+    {
+        HeardListener {
+            listener,
+            children: BTreeMap::new(alloc),
+        }
+    }
+
+    // The children after the changes.
+    fn play(&mut self, alloc: Global, changes: &[Change]) -> Result<(), AllocError>
+        ensures { OnOk result (self.new ≡ after_changes changes.now self.old) }
+    {
+        apply_changes(alloc, &mut self.children, changes)?;
+        Ok(())
+    }
+}
+
+// The first place at which no lesser number stands, by halving.
+fn place_of(numbers: &[u64], number: u64) -> usize
+    requires { Rise numbers.now }
+    ensures first { result ≡ position_or_len (nat_le number) numbers.now }
+    ensures within { result ≤ length numbers.now }
+{
+    numbers.partition_point(|other| *other < number)
+}
+
+// Whether the number stands at the place.
+fn stands_at(numbers: &[u64], place: usize, number: u64) -> bool
+    ensures { result ≡ does_stand numbers.now place number }
+{
+    match numbers.get(place) {
+        Some(other) => *other == number,
+        None => false,
+    }
+}
+
+// The number among the others; it may be there.
+fn insert(numbers: &mut Vec<u64>, number: u64) -> Result<(), AllocError>
+    requires { Rise numbers.old.items }
+    ensures { OnOk result (numbers.new.items ≡ with_request number numbers.old.items) }
+{
+    let place = place_of(numbers.as_slice(), number);
+    if !stands_at(numbers.as_slice(), place, number) {
+        numbers.insert(place, number)?;
+    }
+    Ok(())
+}
+
+// The numbers without that one, which may not be there.
+fn remove(numbers: &mut Vec<u64>, number: u64)
+    requires { Rise numbers.old.items }
+    ensures { numbers.new.items ≡ without_request number numbers.old.items }
+{
+    let place = place_of(numbers.as_slice(), number);
+    if stands_at(numbers.as_slice(), place, number) {
+        let _is_number = numbers.remove(place);
+    }
+}
+
+// The listeners after the changes of the one at the place.
+fn play_at(
+    alloc: Global,
+    heard: &mut Vec<HeardListener>,
+    place: usize,
+    changes: &[Change],
+) -> Result<(), AllocError>
+    requires { place < length heard.old.items }
+    ensures { OnOk result ((one : ℕ × Children) → heard.new.items ≡ slice_set heard.old.items place
+        (after_changes changes.now (slice_index_or heard.old.items place one))) }
+{
+    heard[place].play(alloc, changes)?;
+    Ok(())
+}
+
+// The children of a listener, of which the numbers are beside.
+fn children_of<'a>(
+    numbers: &[u64],
+    heard: &'a [HeardListener],
+    listener: u64,
+) -> Option<&'a BTreeMap<Key, Tree>>
+    requires rise { Rise numbers.now }
+    requires beside { numbers.now ≡ numbers_of heard.now }
+    ensures { option_map (λ c. c.now.entries) result
+        ≡ option_map (λ l. l.1) (find (λ l. l.0 == listener) heard.now) }
+{
+    let place = place_of(numbers, listener);
+    if !stands_at(numbers, place, listener) {
+        return None;
+    }
+    let one = &heard[place];
+    Some(&one.children)
+}
+
+// A listener without children at the place.
+fn insert_heard(
+    alloc: Global,
+    heard: &mut Vec<HeardListener>,
+    place: usize,
+    listener: u64,
+) -> Result<(), AllocError>
+    requires { place ≤ length heard.old.items }
+    ensures { OnOk result (heard.new.items ≡ insert heard.old.items place (listener, [])) }
+{
+    heard.insert(place, HeardListener::new(alloc, listener))?;
+    Ok(())
+}
+
+// The listeners but for the one at the place.
+fn remove_at(heard: &mut Vec<HeardListener>, place: usize)
+    requires { place < length heard.old.items }
+    ensures { heard.new.items ≡ without_at heard.old.items place }
+{
+    drop(heard.remove(place));
+}
+
+// The listeners by number, and their numbers beside them; the unsettled requests by number.
+#[derive(Drop)]
+pub(crate) struct Known {
+    heard: Vec<HeardListener>,
+    numbers: Vec<u64>,
+    requests: Vec<u64>,
+}
+
+impl Model for Known {
+    ghost use Rattle.rt_mail.specs.Mailbox.{Known};
+    ghost use Rattle.rt_mail.specs.inside.Places.{AreInOrder};
+
+    ghost Value = { Known };
+
+    ghost view = { λ a. record { listeners = a.heard.items; requests = a.requests.items } };
+
+    ghost invariant = { λ a. AreInOrder a.heard.items a.numbers.items a.requests.items };
+}
+
+impl Known {
+    ghost use Rattle.rt_mail.specs.Mailbox.{nothing_known, with_listener, played, signed, taken, children_of};
+
+    // Nothing is known.
+    pub(crate) fn new(alloc: Global) -> Known
+        ensures { result ≡ nothing_known }
+    {
+        Known {
+            heard: Vec::new(alloc),
+            numbers: Vec::new(alloc),
+            requests: Vec::new(alloc),
+        }
+    }
+
+    // The numbers of the listeners.
+    pub(crate) fn listeners(&self) -> &[u64]
+        ensures { result.now ≡ map (λ l. l.0) self.now.listeners }
+    {
+        self.numbers.as_slice()
+    }
+
+    // The numbers of the unsettled requests.
+    pub(crate) fn requests(&self) -> &[u64]
+        ensures { result.now ≡ self.now.requests }
+    {
+        self.requests.as_slice()
+    }
+
+    // The children of a listener.
+    pub(crate) fn children(&self, listener: u64) -> Option<&BTreeMap<Key, Tree>>
+        ensures { option_map (λ c. c.now.entries) result ≡ children_of self.now listener }
+    {
+        children_of(self.numbers.as_slice(), self.heard.as_slice(), listener)
+    }
+
+    // A new listener, unless it is one already.
+    fn with_listener(self, listener: u64) -> Result<Known, AllocError>
+        ensures { IfOk result (λ known. known ≡ record self { listeners = with_listener listener self.listeners }) }
+    {
+        let alloc = *self.numbers.allocator();
+        let mut known = self;
+        let place = place_of(known.numbers.as_slice(), listener);
+        if stands_at(known.numbers.as_slice(), place, listener) {
+            return Ok(known);
+        }
+        known.numbers.insert(place, listener)?;
+        insert_heard(alloc, &mut known.heard, place, listener)?;
+        Ok(known)
+    }
+
+    // What is known but for that listener.
+    fn without_listener(self, listener: u64) -> Known
+        ensures { result ≡ record self { listeners = without_listener listener self.listeners } }
+    {
+        let mut known = self;
+        let numbers = known.numbers.as_slice();
+        let place = place_of(numbers, listener);
+        if stands_at(numbers, place, listener) {
+            let _is_listener = known.numbers.remove(place);
+            remove_at(&mut known.heard, place);
+        }
+        known
+    }
+
+    // A new request, unless it is one already.
+    fn with_request(self, id: u64) -> Result<Known, AllocError>
+        ensures { IfOk result (λ known. known ≡ record self { requests = with_request id self.requests }) }
+    {
+        let mut known = self;
+        insert(&mut known.requests, id)?;
+        Ok(known)
+    }
+
+    // What is known but for that request.
+    fn without_request(self, id: u64) -> Known
+        ensures { result ≡ record self { requests = without_request id self.requests } }
+    {
+        let mut known = self;
+        remove(&mut known.requests, id);
+        known
+    }
+
+    // The changes of a listener's view, played over its children.
+    fn played(self, batch: &Batch) -> Result<Known, AllocError>
+        ensures { IfOk result (λ known. known ≡ record self {
+          listeners = map (played batch.now.listener batch.now.changes) self.listeners;
+        }) }
+    {
+        let alloc = *self.numbers.allocator();
+        let mut known = self;
+        let place = place_of(known.numbers.as_slice(), batch.listener);
+        if !stands_at(known.numbers.as_slice(), place, batch.listener) {
+            return Ok(known);
+        }
+        play_at(alloc, &mut known.heard, place, batch.changes.as_slice())?;
+        Ok(known)
+    }
+
+    // What is known after a receipt.
+    fn signed(self, receipt: &Receipt) -> Result<Known, AllocError>
+        ensures { IfOk result (λ known. known ≡ signed self receipt.now) }
+    {
+        match receipt {
+            Receipt::Listened { listener, .. } => self.with_listener(*listener),
+            Receipt::Unlistened { listener } => Ok(self.without_listener(*listener)),
+            Receipt::Wrote { id, .. } => self.with_request(*id),
+            Receipt::Asked { id, .. } => self.with_request(*id),
+        }
+    }
+
+    // What is known after an item.
+    pub(crate) fn after(self, item: &Item) -> Result<Known, AllocError>
+        ensures { IfOk result (λ known. known ≡ taken self item.now) }
+    {
+        match item {
+            Item::Receipt(receipt) => self.signed(receipt),
+            Item::Batch(batch) => self.played(batch),
+            Item::Settled { id, .. } => Ok(self.without_request(*id)),
+            Item::Cancelled { listener, .. } => Ok(self.without_listener(*listener)),
         }
     }
 }

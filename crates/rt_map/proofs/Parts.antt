@@ -17,8 +17,8 @@ use Rattle.std.specs.Map.{keys_of, lookup, remove_entry, set_value}
 use Rattle.std.specs.List.Sorted.{IsStrictlySortedBy}
 use Rattle.std.specs.declared.cmp.Ordering.{Ordering}
 use Rattle.std.specs.declared.cmp.Ordering.TheVariants.{Less, Equal, Greater}
-use Rattle.rt_map.specs.declared.slot.NoSlot.{NoSlot}
-use Rattle.rt_map.specs.declared.slot.NoSlot.TheVariants.{Absent, NoMemory}
+use Rattle.rt_map.specs.declared.map.NoSlot.{NoSlot}
+use Rattle.rt_map.specs.declared.map.NoSlot.TheVariants.{Absent, NoMemory}
 use Rattle.rt_map.specs.inside.Places.{AllBelow, AllAbove, IsPart}
 use Rattle.rt_map.proofs.Order.{below_before, above_after, sorted_left, sorted_right, below_at}
 use Rattle.rt_map.proofs.Entries.{lookup_below, lookup_above, lookup_none, insert_below, insert_above, remove_below, remove_above, set_below, set_above}

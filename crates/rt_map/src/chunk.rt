@@ -11,8 +11,7 @@ ghost use Rattle.rt_map.specs.Maps.{last_below};
 ghost use Rattle.std.specs.Borrow.{sem};
 ghost use Rattle.rt_map.specs.Lent.{LendsInChunk};
 
-use crate::share::Share;
-use crate::slot::NoSlot;
+use crate::map::{NoSlot, Share};
 use std::alloc::{AllocError, Global};
 use std::cmp::Ordering;
 use std::marker::Model;

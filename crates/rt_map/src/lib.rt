@@ -5,19 +5,12 @@
 //! parts on its way those that somebody else holds too.
 #![tactic(auto)]
 
-mod build;
 mod chunk;
-mod compared;
 mod iter;
 mod map;
 mod root;
 mod row;
-mod share;
-mod shown;
-mod slot;
 mod table;
 
 pub use iter::{Iter, Keys, Values};
-pub use map::OrdMap;
-pub use share::Share;
-pub use slot::NoSlot;
+pub use map::{NoSlot, OrdMap, Share};

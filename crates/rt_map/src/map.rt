@@ -1,21 +1,22 @@
 // The map.
-ghost use Rattle.std.specs.Prelude.{◌≡◌, [], ◌-◌, length, IfErr, IfOk, IfSome, OnOk, OnErr, IsSome};
-ghost use Rattle.std.specs.Prelude.{IsTrue, is_some, MatchOption, None, Some, slice_get, ◌↔◌};
+ghost use Rattle.std.specs.Prelude.{◌≡◌, [], ◌-◌, length, IfErr, IfOk, IfSome, OnOk, OnErr, IsSome, IsTrue};
+ghost use Rattle.std.specs.Prelude.{is_some, MatchOption, None, Some, slice_get, ◌↔◌, ◌&&◌};
 ghost use Rattle.std.specs.Option.{option_copied};
 ghost use Rattle.std.specs.List.{IsAmong};
 ghost use Rattle.std.specs.List.Sorted.{IsStrictlySortedBy};
 ghost use Rattle.std.specs.BTreeMap.{insert_entry, is_at};
 ghost use Rattle.std.specs.Map.{remove_entry, keys_of};
 ghost use Rattle.std.specs.Borrow.{sem};
+ghost use Rattle.std.specs.Cmp.Lexicographic.{pointwise};
 ghost use Rattle.rt_map.specs.Maps.{values, get_by, last_below, IsOrdered};
 ghost use Rattle.rt_map.specs.Lent.{LendsInMap};
 ghost use Rattle.rt_map.specs.Updates.{Updates};
+ghost use Rattle.rt_map.specs.declared.map.NoSlot.TheVariants.{NoMemory};
 
 use crate::iter::{Iter, Keys, Values, keys_of_entries, values_of_entries};
 use crate::root::Root;
-use crate::share::Share;
-use crate::slot::NoSlot;
 use std::alloc::{AllocError, Global};
+use std::fmt::{self, Debug, Formatter, Write};
 use std::marker::Model;
 use std::sync::Arc;
 
@@ -262,4 +263,84 @@ impl<K: Ord + Share, V: Share> OrdMap<K, V> {
             }
         }
     }
+}
+
+// ---- equality of maps
+
+// Whether the same entries are left.
+fn same_entries<K: Ord, V: PartialEq>(left: Iter<'_, K, V>, right: Iter<'_, K, V>) -> bool
+    ensures { result ≡ pointwise (λ p q. K.eq p.0 q.0 && V.eq p.1 q.1) left.entry right.entry }
+{
+    let mut left = left;
+    let mut right = right;
+    while let Some((key, value)) = left.next() {
+        let Some((k, v)) = right.next() else {
+            return false;
+        };
+        if !(*key == *k && *value == *v) {
+            return false;
+        }
+    }
+    right.next().is_none()
+}
+
+/// Maps are equal where their entries are.
+impl<K: Ord, V: PartialEq> PartialEq for OrdMap<K, V> {
+    ghost use Rattle.std.specs.Prelude.{◌&&◌};
+    ghost use Rattle.std.specs.Cmp.Lexicographic.{pointwise, lists_per};
+    ghost use Rattle.std.specs.Cmp.{and_per, on_per};
+
+    ghost eq = { λ m n. pointwise (λ p q. K.eq p.0 q.0 && V.eq p.1 q.1) m.entries n.entries };
+
+    ghost laws = { on_per (λ m. m.entries)
+        (lists_per (and_per (on_per (λ p. p.0) K.PartialEq.laws) (on_per (λ p. p.1) V.laws))) };
+
+    fn eq(&self, other: &OrdMap<K, V>) -> bool {
+        same_entries(self.iter(), other.iter())
+    }
+}
+
+impl<K: Ord, V: Eq> Eq for OrdMap<K, V> {
+    ghost use Rattle.std.specs.Cmp.Lexicographic.{lists_equiv};
+    ghost use Rattle.std.specs.Cmp.{and_equiv, on_equiv};
+
+    ghost laws = { on_equiv (λ m. m.entries)
+        (lists_equiv (and_equiv (on_equiv (λ p. p.0) K.Eq.laws) (on_equiv (λ p. p.1) V.Eq.laws))) };
+}
+
+// ---- how a map prints
+
+/// As a map of std: `{key: value, key: value}`.
+impl<K: Ord + Debug, V: Debug> Debug for OrdMap<K, V> {
+    fn fmt<W: Write>(&self, f: &mut Formatter<W>) -> fmt::Result {
+        f.debug_map().entries(self.iter()).finish()
+    }
+}
+
+// ---- why a map hands out no slot
+
+/// Why a map hands out no slot of a key.
+#[derive(Clone, Copy, Debug, PartialEq, Eq)]
+pub enum NoSlot {
+    /// There is no entry at the key.
+    Absent,
+    /// A shared part can't be copied.
+    NoMemory,
+}
+
+impl From<AllocError> for NoSlot {
+    ghost from_gives = { λ _ e. e ≡ NoMemory };
+
+    fn from(_error: AllocError) -> NoSlot {
+        NoSlot::NoMemory
+    }
+}
+
+// ---- what can be copied in next to no time
+
+/// A type whose copies are equal to the original and share what it holds.
+pub trait Share: Drop {
+    /// An equal value.
+    fn share(&self) -> Result<Self, AllocError>
+        ensures { IfOk result (λ it. it ≡ self.now) };
 }

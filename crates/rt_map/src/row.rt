@@ -13,8 +13,7 @@ ghost use Rattle.std.specs.Borrow.{sem};
 ghost use Rattle.rt_map.specs.Lent.{LendsInRow};
 
 use crate::chunk::{Chunk, MAX_ENTRIES, copy_entries};
-use crate::share::Share;
-use crate::slot::NoSlot;
+use crate::map::{NoSlot, Share};
 use std::alloc::{AllocError, Global};
 use std::marker::Model;
 use std::sync::Arc;

@@ -12,9 +12,8 @@ ghost use Rattle.rt_map.specs.inside.Places.{IsPart};
 ghost use Rattle.std.specs.Borrow.{sem};
 ghost use Rattle.rt_map.specs.Lent.{LendsInTable};
 
+use crate::map::{NoSlot, Share};
 use crate::row::{MAX_CHUNKS, Row};
-use crate::share::Share;
-use crate::slot::NoSlot;
 use std::alloc::{AllocError, Global};
 use std::marker::Model;
 use std::sync::Arc;

@@ -13,7 +13,7 @@ use Rattle.rt_nodes.specs.Walks.{IsPlace, spot_in, index_in, place_in}
 use Rattle.rt_nodes.specs.Changes.{InRow}
 use Rattle.rt_nodes.specs.declared.row.Spot.{Spot}
 use Rattle.rt_nodes.specs.declared.row.Spot.TheVariants.{Here, Gap}
-use Rattle.rt_nodes.specs.declared.slot.Slot.{Slot}
+use Rattle.rt_nodes.specs.declared.linked.Slot.{Slot}
 use Rattle.rt_nodes.proofs.Reached.{same_some, IsAt, at_place, not_nowhere, row_at-none, row_at_is, place_of, below_row, behind_row}
 use Rattle.rt_nodes.proofs.Joining.{in_row_times}
 

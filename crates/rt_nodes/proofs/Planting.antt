@@ -14,7 +14,7 @@ use Rattle.rt_nodes.specs.Forest.{Forest, bare, node, one_if, first, size, times
 use Rattle.rt_nodes.specs.Walks.{spot_in}
 use Rattle.rt_nodes.specs.Changes.{is_link, linked_in, planted, Changed}
 use Rattle.rt_nodes.specs.declared.row.Spot.TheVariants.{Here, Gap}
-use Rattle.rt_nodes.specs.declared.slot.Slot.{Slot}
+use Rattle.rt_nodes.specs.declared.linked.Slot.{Slot}
 use Rattle.rt_nodes.proofs.Reached.{locate, not_nowhere}
 use Rattle.rt_nodes.proofs.Felling.{one_of, links_kept}
 use Rattle.rt_nodes.proofs.Joining.{LiesIn, link_out, lies_first, lies_more, not_same}

@@ -5,7 +5,7 @@ use Rattle.slab.specs.Slab.{Slab}
 use Rattle.rt_tree.specs.PathTree.{Key, Path}
 use Rattle.rt_order.specs.KeyOrder.{key_cmp}
 use Rattle.rt_nodes.specs.Forest.{Forest, bare, node, IsRow, row_at}
-use Rattle.rt_nodes.specs.declared.slot.Slot.{Slot}
+use Rattle.rt_nodes.specs.declared.linked.Slot.{Slot}
 use Rattle.rt_nodes.specs.declared.row.Spot.{Spot}
 use Rattle.rt_nodes.specs.declared.row.Spot.TheVariants.{Here, Gap}
 

@@ -1,13 +1,13 @@
 // The children of a node in the order of keys, in pieces: a child more or less moves those of its
 // piece alone.
-ghost use Rattle.std.specs.Prelude.{◌≡◌, ◌+◌, ◌<◌, ◌≤◌, ℕ, Some, length, slice_get, nat_eq};
-ghost use Rattle.std.specs.Prelude.{true, false, IfSome, IfNone, OnOk, OnErr};
+ghost use Rattle.std.specs.Prelude.{◌≡◌, ◌+◌, ◌<◌, ◌≤◌, ℕ, Some, length, slice_get, nat_eq, true, false};
+ghost use Rattle.std.specs.Prelude.{IfSome, IfNone, OnOk, OnErr, Option, vec_len};
 ghost use Rattle.rt_nodes.specs.Forest.{one_if};
-ghost use Rattle.rt_nodes.specs.inside.Often.{in_piece, in_pieces, in_row};
+ghost use Rattle.rt_nodes.specs.inside.Often.{in_piece, in_pieces, in_row, in_nth};
 
-use crate::head::head_of;
-use crate::slot::Slot;
+use crate::linked::Slot;
 use rt_order::PlacedRef;
+use rt_tree::Key;
 use slab::Slab;
 use std::alloc::{AllocError, Global};
 use std::cmp::Ordering;
@@ -19,7 +19,7 @@ const LOWER: usize = 64;
 
 // A child, and a number that rises with its key.
 #[derive(Clone, Copy, Debug)]
-pub(crate) struct Place {
+pub(crate) struct PiecePlace {
     head: u64,
     child: usize,
 }
@@ -27,8 +27,8 @@ pub(crate) struct Place {
 // The first piece, and those behind it.
 #[derive(Debug)]
 pub(crate) struct Children {
-    first: Vec<Place>,
-    more: Vec<Vec<Place>>,
+    first: Vec<PiecePlace>,
+    more: Vec<Vec<PiecePlace>>,
 }
 
 impl Drop for Children {
@@ -38,7 +38,12 @@ impl Drop for Children {
 }
 
 // How a key stands to that of a place. A child that has left the nodes has the key itself.
-fn order_at<V>(nodes: &Slab<Slot<V>>, key: &PlacedRef<'_>, head: u64, place: Place) -> Ordering {
+fn order_at<V>(
+    nodes: &Slab<Slot<V>>,
+    key: &PlacedRef<'_>,
+    head: u64,
+    place: PiecePlace,
+) -> Ordering {
     match head.cmp(&place.head) {
         Ordering::Less => Ordering::Less,
         Ordering::Greater => Ordering::Greater,
@@ -50,7 +55,7 @@ fn order_at<V>(nodes: &Slab<Slot<V>>, key: &PlacedRef<'_>, head: u64, place: Pla
 }
 
 // How many of the places stand at the key or in front of it.
-fn place_of<V>(piece: &[Place], nodes: &Slab<Slot<V>>, key: &PlacedRef<'_>, head: u64) -> usize
+fn place_of<V>(piece: &[PiecePlace], nodes: &Slab<Slot<V>>, key: &PlacedRef<'_>, head: u64) -> usize
     ensures { result ≤ length piece.now }
 {
     let mut low = 0;
@@ -66,7 +71,12 @@ fn place_of<V>(piece: &[Place], nodes: &Slab<Slot<V>>, key: &PlacedRef<'_>, head
 }
 
 // Whether the key stands in front of a piece.
-fn is_in_front<V>(piece: &[Place], nodes: &Slab<Slot<V>>, key: &PlacedRef<'_>, head: u64) -> bool {
+fn is_in_front<V>(
+    piece: &[PiecePlace],
+    nodes: &Slab<Slot<V>>,
+    key: &PlacedRef<'_>,
+    head: u64,
+) -> bool {
     match piece.first() {
         Some(place) => order_at(nodes, key, head, *place).is_lt(),
         None => false,
@@ -75,7 +85,7 @@ fn is_in_front<V>(piece: &[Place], nodes: &Slab<Slot<V>>, key: &PlacedRef<'_>, h
 
 // How many of the pieces begin at the key or in front of it.
 fn piece_of<V>(
-    pieces: &[Vec<Place>],
+    pieces: &[Vec<PiecePlace>],
     nodes: &Slab<Slot<V>>,
     key: &PlacedRef<'_>,
     head: u64,
@@ -96,8 +106,8 @@ fn piece_of<V>(
 }
 
 // The first place from `from` on at which the child stands.
-fn place_from(piece: &[Place], from: usize, child: usize) -> Option<usize>
-    ensures there { IfSome result (λ place. (there : Place) × (slice_get piece.now place ≡ Some there)
+fn place_from(piece: &[PiecePlace], from: usize, child: usize) -> Option<usize>
+    ensures there { IfSome result (λ place. (there : PiecePlace) × (slice_get piece.now place ≡ Some there)
         × (there.child ≡ child)) }
     ensures none { IfNone result (from ≡ 0 → in_piece child piece.now ≡ 0) }
 {
@@ -111,13 +121,13 @@ fn place_from(piece: &[Place], from: usize, child: usize) -> Option<usize>
 
 // The place at which a child stands.
 fn find_child<V>(
-    piece: &[Place],
+    piece: &[PiecePlace],
     nodes: &Slab<Slot<V>>,
     key: &PlacedRef<'_>,
     head: u64,
     child: usize,
 ) -> Option<usize>
-    ensures there { IfSome result (λ place. (there : Place) × (slice_get piece.now place ≡ Some there)
+    ensures there { IfSome result (λ place. (there : PiecePlace) × (slice_get piece.now place ≡ Some there)
         × (there.child ≡ child)) }
     ensures none { IfNone result (in_piece child piece.now ≡ 0) }
 {
@@ -130,10 +140,10 @@ fn find_child<V>(
 
 // Puts a child at the place of its key.
 fn insert_at<V>(
-    piece: &mut Vec<Place>,
+    piece: &mut Vec<PiecePlace>,
     nodes: &Slab<Slot<V>>,
     key: &PlacedRef<'_>,
-    place: Place,
+    place: PiecePlace,
 ) -> Result<(), AllocError>
     ensures ok { OnOk result ((m : ℕ) → in_piece m piece.new.items
         ≡ in_piece m piece.old.items + one_if (nat_eq m place.child)) }
@@ -146,7 +156,7 @@ fn insert_at<V>(
 
 // Takes out a child, where it stands here.
 fn take_from<V>(
-    piece: &mut Vec<Place>,
+    piece: &mut Vec<PiecePlace>,
     nodes: &Slab<Slot<V>>,
     key: &PlacedRef<'_>,
     head: u64,
@@ -168,7 +178,7 @@ fn take_from<V>(
 
 // Takes a child out of one of the pieces, where it stands there. A piece that is left empty goes.
 fn take_in<V>(
-    pieces: &mut Vec<Vec<Place>>,
+    pieces: &mut Vec<Vec<PiecePlace>>,
     at: usize,
     nodes: &Slab<Slot<V>>,
     key: &PlacedRef<'_>,
@@ -192,7 +202,7 @@ fn take_in<V>(
 
 // Takes a child out of the piece that it stands in.
 fn take_anywhere<V>(
-    pieces: &mut Vec<Vec<Place>>,
+    pieces: &mut Vec<Vec<PiecePlace>>,
     nodes: &Slab<Slot<V>>,
     key: &PlacedRef<'_>,
     head: u64,
@@ -211,7 +221,7 @@ fn take_anywhere<V>(
 }
 
 // Parts a piece in two, where it is full.
-fn part(pieces: &mut Vec<Vec<Place>>, alloc: Global, at: usize) -> Result<(), AllocError>
+fn part(pieces: &mut Vec<Vec<PiecePlace>>, alloc: Global, at: usize) -> Result<(), AllocError>
     requires { at < length pieces.old.items }
     ensures { (m : ℕ) → in_pieces m pieces.new.items ≡ in_pieces m pieces.old.items }
 {
@@ -289,7 +299,7 @@ impl Children {
             ≡ in_row m self.old + one_if (nat_eq m child)) }
         ensures err { OnErr result ((m : ℕ) → in_row m self.new ≡ in_row m self.old) }
     {
-        let place = Place {
+        let place = PiecePlace {
             head: head_of(key.key()),
             child,
         };
@@ -332,4 +342,128 @@ impl Children {
         // For the prover: the child stood in the piece of its key.
         take_anywhere(&mut self.more, nodes, key, head, child);
     }
+}
+
+// ---- the children of each node in the order of keys, from which a search begins
+
+// The children of the root, and those of each node by its number.
+#[derive(Debug)]
+pub(crate) struct Ranks {
+    top: Children,
+    below: Vec<Children>,
+}
+
+impl Drop for Ranks {
+    fn drop(self) {
+        let Ranks { top: _, below: _ } = self;
+    }
+}
+
+// Makes rows up to that of a node.
+fn lengthen(below: &mut Vec<Children>, alloc: Global, node: usize) -> Result<(), AllocError>
+    ensures room { OnOk result (node < vec_len below.new) }
+    ensures same { (m n : ℕ) → in_nth m below.new.items n ≡ in_nth m below.old.items n }
+{
+    while below.len() <= node {
+        below.push(Children::new(alloc))?;
+    }
+    Ok(())
+}
+
+impl Ranks {
+    ghost use Rattle.rt_nodes.specs.inside.Ranks.{held, Added, IsAlike};
+
+    pub(crate) fn new(alloc: Global) -> Ranks
+        ensures { (p : Option ℕ) (m : ℕ) → held m result p ≡ 0 }
+    {
+        Ranks {
+            top: Children::new(alloc),
+            below: Vec::new(alloc),
+        }
+    }
+
+    // The last of the children at the key or in front of it.
+    pub(crate) fn nearest<V>(
+        &self,
+        nodes: &Slab<Slot<V>>,
+        parent: Option<usize>,
+        key: &PlacedRef<'_>,
+    ) -> Option<usize> {
+        match parent {
+            None => self.top.nearest(nodes, key),
+            Some(node) => self.below.get(node)?.nearest(nodes, key),
+        }
+    }
+
+    // Puts a child at the place of its key.
+    pub(crate) fn add<V>(
+        &mut self,
+        alloc: Global,
+        nodes: &Slab<Slot<V>>,
+        parent: Option<usize>,
+        key: &PlacedRef<'_>,
+        child: usize,
+    ) -> Result<(), AllocError>
+        ensures ok { OnOk result (Added self.old self.new parent child) }
+        ensures err { OnErr result (IsAlike self.old self.new) }
+    {
+        let Some(node) = parent else {
+            return self.top.insert(alloc, nodes, key, child);
+        };
+        lengthen(&mut self.below, alloc, node)?;
+        self.below[node].insert(alloc, nodes, key, child)
+    }
+
+    // Takes out a child.
+    pub(crate) fn remove<V>(
+        &mut self,
+        nodes: &Slab<Slot<V>>,
+        parent: Option<usize>,
+        key: &PlacedRef<'_>,
+        child: usize,
+    )
+        requires { 0 < held child self.old parent }
+        ensures { Added self.new self.old parent child }
+    {
+        match parent {
+            None => self.top.remove(nodes, key, child),
+            Some(node) => {
+                if let Some(children) = self.below.get_mut(node) {
+                    children.remove(nodes, key, child);
+                }
+            }
+        }
+    }
+}
+
+// ---- what of a key stands beside its node in an index
+
+// A byte of a text; 0 behind its end.
+fn byte_at(bytes: &[u8], at: usize) -> u8 {
+    match bytes.get(at) {
+        Some(byte) => *byte,
+        None => 0,
+    }
+}
+
+// A number that rises with the key: that of an integer key, or else its first bytes, of which none
+// is a control character.
+pub(crate) fn head_of(key: &Key) -> u64 {
+    let bytes = key.text().as_bytes();
+    let first = byte_at(bytes, 0);
+    if first == b'-' || first.is_ascii_digit() {
+        if let Ok(number) = key.text().parse::<i32>() {
+            return u64::from(number.abs_diff(i32::MIN));
+        }
+    }
+    u64::from_be_bytes([
+        byte_at(bytes, 0),
+        byte_at(bytes, 1),
+        byte_at(bytes, 2),
+        byte_at(bytes, 3),
+        byte_at(bytes, 4),
+        byte_at(bytes, 5),
+        byte_at(bytes, 6),
+        byte_at(bytes, 7),
+    ])
 }

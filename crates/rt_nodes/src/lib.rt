@@ -6,13 +6,8 @@
 #![tactic(auto)]
 
 mod children;
-mod head;
 mod linked;
-mod links;
-mod ranks;
 mod row;
-mod slot;
 
-pub use linked::Linked;
+pub use linked::{Linked, Slot};
 pub use row::{Siblings, Spot};
-pub use slot::Slot;

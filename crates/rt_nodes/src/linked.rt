@@ -5,13 +5,12 @@ ghost use Rattle.slab.specs.Slab.{get, slab_len, Updates};
 ghost use Rattle.rt_nodes.specs.Forest.{IsRow, row_at, times};
 ghost use Rattle.rt_nodes.specs.Walks.{IsPlace, spot_in, index_in, place_in};
 ghost use Rattle.rt_nodes.specs.Nodes.{Inserted};
-ghost use Rattle.rt_nodes.specs.Changes.{Felled, Changed, IsHead, InRow, Same, Told, without};
-ghost use Rattle.rt_nodes.specs.Changes.{linked_in, with_content, with_value};
+ghost use Rattle.rt_nodes.specs.Changes.{Felled, Changed, IsHead, InRow, Same, Told, without, linked_in};
+ghost use Rattle.rt_nodes.specs.Changes.{with_content, with_value, joined, with_next, with_previous};
+ghost use Rattle.rt_nodes.specs.inside.Ranks.{IsRanked};
 
-use crate::ranks::Ranks;
-use crate::row::{Siblings, Spot};
-use crate::slot::Slot;
-use crate::{links, row};
+use crate::children::Ranks;
+use crate::row::{self, Siblings, Spot};
 use rt_order::{PlacedKey, PlacedRef};
 use rt_tree::Key;
 use slab::Slab;
@@ -37,7 +36,7 @@ impl<V: Drop> Drop for Linked<V> {
 
 impl<V> Model for Linked<V> {
     ghost use Rattle.slab.specs.Slab.{Slab as Slots, slab_code};
-    ghost use Rattle.rt_nodes.specs.declared.slot.Slot.{Slot as SlotValue};
+    ghost use Rattle.rt_nodes.specs.declared.linked.Slot.{Slot as SlotValue};
     ghost use Rattle.rt_nodes.specs.Nodes.{slot_code};
 
     ghost Value = { Slots (SlotValue V) };
@@ -121,7 +120,7 @@ impl<V: Drop> Linked<V> {
             (get self.old n) }
         ensures len { slab_len self.new ≡ slab_len self.old }
     {
-        links::link(&mut self.nodes, previous, index, next);
+        link(&mut self.nodes, previous, index, next);
     }
 
     /// Sets what a node carries, and its first child.
@@ -131,7 +130,7 @@ impl<V: Drop> Linked<V> {
         ensures others { (n : ℕ) → n ≢ index → get self.new n ≡ get self.old n }
         ensures len { slab_len self.new ≡ slab_len self.old }
     {
-        links::set_content(&mut self.nodes, index, value, link);
+        set_content(&mut self.nodes, index, value, link);
     }
 
     /// Sets what a node carries. The answer is what it carried; `None` where no node has the number.
@@ -141,7 +140,7 @@ impl<V: Drop> Linked<V> {
         ensures others { (n : ℕ) → n ≢ index → get self.new n ≡ get self.old n }
         ensures len { slab_len self.new ≡ slab_len self.old }
     {
-        links::exchange(&mut self.nodes, index, value)
+        exchange(&mut self.nodes, index, value)
     }
 
     /// Takes the nodes of a row out of the slab, with all below it.
@@ -150,7 +149,7 @@ impl<V: Drop> Linked<V> {
         requires once { (n : ℕ) → times n (row_at self.old first) ≤ 1 }
         ensures { Felled self.old self.new (row_at self.old first) }
     {
-        links::fell(&mut self.nodes, &mut self.ranks, first);
+        fell(&mut self.nodes, &mut self.ranks, first);
     }
 
     /// Takes a node out of its row, with all below it. The answer is the first node that is left.
@@ -163,7 +162,7 @@ impl<V: Drop> Linked<V> {
         ensures changed { Changed self.old self.new (row_at self.old first)
             (without index (row_at self.old first)) }
     {
-        links::take_out(&mut self.nodes, &mut self.ranks, first, index)
+        take_out(&mut self.nodes, &mut self.ranks, first, index)
     }
 
     /// Where a key stands in a row.
@@ -191,5 +190,167 @@ impl<V: Drop> Linked<V> {
         ensures { result ≡ place_in key.now rest.now (row_at self.now row.first) }
     {
         row::descend(&self.nodes, &self.ranks, row, key, rest)
+    }
+}
+
+// ---- a node as it stands in a slab
+
+/// A node: its key, its links, and what it carries.
+#[derive(Debug)]
+pub struct Slot<V> {
+    pub key: PlacedKey,
+    pub parent: Option<usize>,
+    pub first_child: Option<usize>,
+    pub previous: Option<usize>,
+    pub next: Option<usize>,
+    pub value: V,
+}
+
+impl<V: Drop> Drop for Slot<V> {
+    fn drop(self) {
+        let Slot {
+            key: _,
+            parent: _,
+            first_child: _,
+            previous: _,
+            next: _,
+            value: _,
+        } = self;
+    }
+}
+
+// ---- nodes are linked and taken out
+
+// Sets the sibling behind a node.
+pub(crate) fn set_next<V: Drop>(nodes: &mut Slab<Slot<V>>, index: usize, link: Option<usize>)
+    ensures written { get nodes.new index ≡ option_map (with_next link) (get nodes.old index) }
+    ensures others { (n : ℕ) → n ≢ index → get nodes.new n ≡ get nodes.old n }
+    ensures len { slab_len nodes.new ≡ slab_len nodes.old }
+{
+    if let Some(slot) = nodes.get_mut(index) {
+        slot.next = link;
+    }
+}
+
+// Sets the sibling in front of a node.
+pub(crate) fn set_previous<V: Drop>(nodes: &mut Slab<Slot<V>>, index: usize, link: Option<usize>)
+    ensures written { get nodes.new index ≡ option_map (with_previous link) (get nodes.old index) }
+    ensures others { (n : ℕ) → n ≢ index → get nodes.new n ≡ get nodes.old n }
+    ensures len { slab_len nodes.new ≡ slab_len nodes.old }
+{
+    if let Some(slot) = nodes.get_mut(index) {
+        slot.previous = link;
+    }
+}
+
+// Links two siblings to each other, where they are there.
+pub(crate) fn join<V: Drop>(nodes: &mut Slab<Slot<V>>, previous: Option<usize>, next: Option<usize>)
+    ensures each { (n : ℕ) → get nodes.new n ≡ option_map (joined previous next n) (get nodes.old n) }
+    ensures len { slab_len nodes.new ≡ slab_len nodes.old }
+{
+    if let Some(index) = previous {
+        set_next(nodes, index, next);
+    }
+    if let Some(index) = next {
+        set_previous(nodes, index, previous);
+    }
+}
+
+// Puts a node between two siblings.
+pub(crate) fn link<V: Drop>(
+    nodes: &mut Slab<Slot<V>>,
+    previous: Option<usize>,
+    index: usize,
+    next: Option<usize>,
+)
+    ensures each { (n : ℕ) → get nodes.new n ≡ option_map (linked_in previous index next n)
+        (get nodes.old n) }
+    ensures len { slab_len nodes.new ≡ slab_len nodes.old }
+{
+    join(nodes, previous, Some(index));
+    join(nodes, Some(index), next);
+}
+
+// Sets what a node carries, and its first child.
+pub(crate) fn set_content<V: Drop>(
+    nodes: &mut Slab<Slot<V>>,
+    index: usize,
+    value: V,
+    link: Option<usize>,
+)
+    ensures written { get nodes.new index ≡ option_map (with_content value link) (get nodes.old index) }
+    ensures others { (n : ℕ) → n ≢ index → get nodes.new n ≡ get nodes.old n }
+    ensures len { slab_len nodes.new ≡ slab_len nodes.old }
+{
+    if let Some(slot) = nodes.get_mut(index) {
+        slot.first_child = link;
+        slot.value = value;
+    }
+}
+
+// Sets what a node carries. The answer is what it carried.
+pub(crate) fn exchange<V: Drop>(nodes: &mut Slab<Slot<V>>, index: usize, value: V) -> Option<V>
+    ensures value { result ≡ option_map (λ slot. slot.value) (get nodes.old index) }
+    ensures written { get nodes.new index ≡ option_map (with_value value) (get nodes.old index) }
+    ensures others { (n : ℕ) → n ≢ index → get nodes.new n ≡ get nodes.old n }
+    ensures len { slab_len nodes.new ≡ slab_len nodes.old }
+{
+    match nodes.get_mut(index) {
+        Some(slot) => Some(std::mem::replace(&mut slot.value, value)),
+        None => None,
+    }
+}
+
+// Takes the nodes of a row out of the slab, with all below them.
+pub(crate) fn fell<V: Drop>(nodes: &mut Slab<Slot<V>>, ranks: &mut Ranks, first: Option<usize>)
+    requires place { IsPlace nodes.old first }
+    requires once { (n : ℕ) → times n (row_at nodes.old first) ≤ 1 }
+    requires ranked { IsRanked nodes.old ranks.old }
+    ensures felled { Felled nodes.old nodes.new (row_at nodes.old first) }
+    ensures ranked { IsRanked nodes.new ranks.new }
+{
+    let mut next = first;
+    while let Some(index) = next {
+        let Some(slot) = nodes.try_remove(index) else {
+            return;
+        };
+        ranks.remove(nodes, slot.parent, &slot.key.borrowed(), index);
+        next = slot.next;
+        let below = slot.first_child;
+        drop(slot);
+        fell(nodes, ranks, below);
+    }
+}
+
+// Takes a node out of its row, with all below it. The answer is the first node that is left.
+pub(crate) fn take_out<V: Drop>(
+    nodes: &mut Slab<Slot<V>>,
+    ranks: &mut Ranks,
+    first: Option<usize>,
+    index: usize,
+) -> Option<usize>
+    requires head { IsHead nodes.old first }
+    requires once { (n : ℕ) → times n (row_at nodes.old first) ≤ 1 }
+    requires there { InRow index (row_at nodes.old first) }
+    requires ranked { IsRanked nodes.old ranks.old }
+    ensures row { (parent : Option ℕ) → IsRow nodes.old first parent None (row_at nodes.old first)
+        → IsRow nodes.new result parent None (without index (row_at nodes.old first)) }
+    ensures changed { Changed nodes.old nodes.new (row_at nodes.old first)
+        (without index (row_at nodes.old first)) }
+    ensures ranked { IsRanked nodes.new ranks.new }
+{
+    let Some(slot) = nodes.try_remove(index) else {
+        return first;
+    };
+    ranks.remove(nodes, slot.parent, &slot.key.borrowed(), index);
+    let below = slot.first_child;
+    let previous = slot.previous;
+    let next = slot.next;
+    drop(slot);
+    join(nodes, previous, next);
+    fell(nodes, ranks, below);
+    match previous {
+        None => next,
+        Some(_) => first,
     }
 }

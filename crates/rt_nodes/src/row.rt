@@ -6,8 +6,8 @@ ghost use Rattle.rt_nodes.specs.Forest.{IsRow, row_at};
 ghost use Rattle.rt_nodes.specs.Walks.{spot_in, index_in, place_in, IsPlace};
 ghost use Rattle.rt_nodes.specs.Changes.{Told};
 
-use crate::ranks::Ranks;
-use crate::slot::Slot;
+use crate::children::Ranks;
+use crate::linked::Slot;
 use rt_order::PlacedRef;
 use rt_tree::Key;
 use slab::Slab;

@@ -5,10 +5,9 @@ ghost use Rattle.rt_order.specs.Cuts.{has, is_after, is_past, mark_value};
 ghost use Rattle.rt_order.specs.Entries.{entry};
 ghost use Rattle.rt_order.specs.SortRef.{value_of};
 
-use crate::index::{Index, sort_value};
+use crate::index::{Index, SortRef, sort_value, value_cmp};
 use crate::key::key_cmp;
 use crate::placed_ref::PlacedRef;
-use crate::value::{SortRef, value_cmp};
 use rt_tree::{Key, Leaf, Tree};
 use std::alloc::{AllocError, Global};
 use std::cmp::Ordering;

@@ -15,15 +15,11 @@ mod examples;
 mod index;
 mod key;
 mod laws;
-mod placed;
 mod placed_ref;
-mod value;
 
 pub use cut::{Cut, Mark, Place, Range, cut_cmp};
 pub use examples::{cut_examples, key_examples, range_examples, value_examples};
-pub use index::{Index, entry_cmp, sort_value};
-pub use key::{is_integer, key_cmp};
+pub use index::{Index, SortRef, entry_cmp, leaf_cmp, sort_value, value_cmp};
+pub use key::{PlacedKey, is_integer, key_cmp};
 pub use laws::{cut_laws, cut_order_laws, entry_laws, equality_laws, key_laws};
-pub use placed::PlacedKey;
 pub use placed_ref::PlacedRef;
-pub use value::{SortRef, leaf_cmp, value_cmp};

@@ -8,7 +8,7 @@ use Rattle.rt_writes.specs.Writes.{Write}
 use Rattle.rt_cache.specs.Brought.{Brought}
 use Rattle.rt_view.specs.Views.{View}
 use Rattle.rt_world.specs.World.{Listener}
-use Rattle.rt_parts.specs.declared.held.Held.{Held}
+use Rattle.rt_parts.specs.declared.listeners.Held.{Held}
 use Rattle.rt_parts.specs.Listeners.{count_if, count_with, counts_left, own_count}
 use Rattle.rt_parts.specs.inside.HeldView.{all_of, counted_of, counts_of, listener_of, listeners_of, pair_of, views_of}
 use Rattle.rt_parts.specs.Renewed.{count_of}

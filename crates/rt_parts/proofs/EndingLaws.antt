@@ -14,7 +14,7 @@ use Rattle.rt_world.specs.declared.report.Note.{Note}
 use Rattle.rt_world.specs.World.{Listener, Reason}
 use Rattle.rt_writes.specs.laws.Places.{filter_none_found}
 use Rattle.rt_parts.specs.Listeners.{cancelled_note}
-use Rattle.rt_parts.specs.declared.held.Held.{Held}
+use Rattle.rt_parts.specs.declared.listeners.Held.{Held}
 use Rattle.rt_parts.specs.inside.HeldView.{ended_among, ended_at, HaveForm, HaveSupplied, listener_of, listeners_of}
 use Rattle.rt_parts.specs.Refreshed.{is_supplied_at}
 use Rattle.rt_parts.proofs.IndexLaws.{form_path, only_at_path, own_test}

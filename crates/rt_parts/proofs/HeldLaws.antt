@@ -9,7 +9,7 @@ use Rattle.std.proofs.lemmas.List.Quantifiers.{all_pairs_push}
 use Rattle.std.proofs.lemmas.List.{get_or-map, length-map}
 use Rattle.rt_world.specs.Answers.{view_before}
 use Rattle.rt_world.specs.World.{Listener}
-use Rattle.rt_parts.specs.declared.held.Held.{Held}
+use Rattle.rt_parts.specs.declared.listeners.Held.{Held}
 use Rattle.rt_parts.specs.Listeners.{views_left, views_where}
 use Rattle.rt_parts.specs.inside.HeldView.{all_of, AreHeld, views_of, IsHeld, listener_of, listeners_of, own_view, own_views, own_number, shown_in}
 

@@ -15,7 +15,7 @@ use Rattle.rt_query.specs.QueryEq.{query_eq}
 use Rattle.rt_query.specs.Supply.{form}
 use Rattle.rt_query.specs.laws.QueryEq.{query_eq_tells}
 use Rattle.rt_writes.specs.laws.Places.{any_found, found_at, stands}
-use Rattle.rt_parts.specs.declared.held.Held.{Held}
+use Rattle.rt_parts.specs.declared.listeners.Held.{Held}
 use Rattle.rt_parts.specs.declared.places.Place.{Place}
 use Rattle.rt_parts.specs.inside.Placed.{AreInOrder, HaveNumbers, IsIndex, placed, stand_cmp, stand_of}
 use Rattle.rt_parts.proofs.Numbered.{only_there}

@@ -11,7 +11,7 @@ use Rattle.rt_writes.specs.Writes.{Write}
 use Rattle.rt_cache.specs.Brought.{Brought}
 use Rattle.rt_view.specs.Views.{View}
 use Rattle.rt_world.specs.World.{Listener}
-use Rattle.rt_parts.specs.declared.held.Held.{Held}
+use Rattle.rt_parts.specs.declared.listeners.Held.{Held}
 use Rattle.rt_parts.specs.inside.HeldView.{listener_of, listeners_of, pair_of, refreshed_heard, views_of}
 use Rattle.rt_parts.specs.Refreshed.{renewed_heard, view_heard}
 

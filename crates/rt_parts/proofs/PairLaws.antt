@@ -19,7 +19,7 @@ use Rattle.rt_tree.specs.Assignments.{Assignment, do_overlap, is_at_or_above}
 use Rattle.rt_tree.specs.Leaves.{strip}
 use Rattle.rt_world.specs.Met.{do_meet}
 use Rattle.rt_world.specs.Touched.{named_by}
-use Rattle.rt_parts.specs.declared.held.Held.{Held}
+use Rattle.rt_parts.specs.declared.listeners.Held.{Held}
 use Rattle.rt_parts.specs.declared.places.Place.{Place}
 use Rattle.rt_query.specs.Queries.{Query}
 use Rattle.rt_parts.specs.inside.HeldView.{HaveSupplied}

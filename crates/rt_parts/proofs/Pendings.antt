@@ -6,7 +6,7 @@ use Rattle.std.proofs.lemmas.List.Elements.{All-cons, All-head, All-tail}
 use Rattle.rt_writes.specs.Writes.{Write, entries_of as entries_at}
 use Rattle.rt_wire.specs.declared.request.Asked.{Asked}
 use Rattle.rt_wire.specs.declared.request.Asked.TheVariants.{Now, AtDisconnect}
-use Rattle.rt_world.specs.declared.request.Request.{Request}
+use Rattle.rt_world.specs.declared.step.Request.{Request}
 use Rattle.rt_tree.specs.Assignments.{Assignment}
 use Rattle.rt_world.specs.World.{pending, entries_of, write_asked}
 use Rattle.rt_parts.specs.inside.Writes.{entries_asked}

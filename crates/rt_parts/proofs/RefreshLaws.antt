@@ -17,7 +17,7 @@ use Rattle.rt_world.specs.Met.{do_meet, told, told_met}
 use Rattle.rt_world.specs.Views.{is_known, view_of}
 use Rattle.rt_world.specs.World.{Listener}
 use Rattle.rt_writes.specs.laws.Places.{filter_none_found}
-use Rattle.rt_parts.specs.declared.held.Held.{Held}
+use Rattle.rt_parts.specs.declared.listeners.Held.{Held}
 use Rattle.rt_parts.specs.inside.HeldView.{counted_of, listener_of, listeners_of, pair_of, refreshed, refreshed_at, refreshed_heard, told_at}
 use Rattle.rt_parts.specs.declared.places.Place.{Place}
 use Rattle.rt_parts.specs.inside.Pairs.{AreHanded, HasPairs, IsDue}

@@ -19,7 +19,7 @@ use Rattle.rt_world.specs.After.{renewed}
 use Rattle.rt_world.specs.Met.{told}
 use Rattle.rt_world.specs.Views.{is_known, view_of as view_at}
 use Rattle.rt_world.specs.World.{Listener}
-use Rattle.rt_parts.specs.declared.held.Held.{Held}
+use Rattle.rt_parts.specs.declared.listeners.Held.{Held}
 use Rattle.rt_parts.specs.declared.places.Place.{Place}
 use Rattle.rt_parts.specs.inside.HeldView.{HaveSupplied, listener_of, listeners_of, pair_of, renewal_told_at, renewed_at, renewed_pair, views_of}
 use Rattle.rt_parts.specs.inside.Placed.{HaveAt, HaveNumbers, Keeps, placed}

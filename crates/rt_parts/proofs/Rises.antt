@@ -6,7 +6,7 @@ use Rattle.std.specs.Option.{option_eq}
 use Rattle.std.proofs.lemmas.List.Elements.{All-contains}
 use Rattle.std.proofs.lemmas.List.Kept.{AllPairs-cons, AllPairs-filter}
 use Rattle.rt_cover.specs.laws.Pairs.{AllPairs-nil, AllPairs-append, AllPairs-map}
-use Rattle.rt_world.specs.declared.request.Request.{Request}
+use Rattle.rt_world.specs.declared.step.Request.{Request}
 use Rattle.rt_writes.specs.Writes.{Write, without}
 use Rattle.rt_world.specs.steps.Closing.{unseated}
 use Rattle.rt_world.specs.World.{pending}

@@ -8,7 +8,7 @@ use Rattle.rt_query.specs.Queries.{Query, is_filtered}
 use Rattle.rt_writes.specs.Writes.{Write, overlay}
 use Rattle.rt_writes.specs.laws.Overlay.{OverlayOfChild}
 use Rattle.rt_cache.specs.Brought.{child_base}
-use Rattle.rt_cache.specs.declared.base.Base.{Base}
+use Rattle.rt_cache.specs.declared.brought.Base.{Base}
 use Rattle.rt_world.specs.Views.{base_tree, is_base_whole, is_child_known, seen_over}
 
 -- null has no children

@@ -18,7 +18,7 @@ use Rattle.rt_world.specs.After.{renewed}
 use Rattle.rt_world.specs.Answers.{batch_note, batch_from}
 use Rattle.rt_world.specs.Met.{seeing, told}
 use Rattle.rt_world.specs.Touched.{is_covered}
-use Rattle.rt_parts.specs.declared.held.Held.{Held}
+use Rattle.rt_parts.specs.declared.listeners.Held.{Held}
 use Rattle.rt_parts.specs.inside.HeldView.{IsHeld, IsViewOf, listener_of, pair_of, shown_in}
 use Rattle.rt_parts.specs.inside.Named.{AreNamed}
 use Rattle.rt_parts.specs.Refreshed.{FollowsNamed, is_touched, named_children, view_after}

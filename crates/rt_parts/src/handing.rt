@@ -8,8 +8,8 @@ ghost use Rattle.rt_parts.specs.inside.HeldView.{HaveSupplied};
 ghost use Rattle.rt_parts.specs.inside.Pairs.{AreHanded};
 ghost use Rattle.rt_parts.specs.inside.Placed.{IsIndex};
 
-use crate::held::{Held, place_of};
-use crate::met::{pairs_met, pairs_with};
+use crate::entries::{pairs_met, pairs_with};
+use crate::listeners::{Held, place_of};
 use crate::places::{Place, push_at, sort_once};
 use rt_query::Query;
 use rt_tree::{Path, Tree};

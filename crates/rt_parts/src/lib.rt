@@ -15,21 +15,14 @@
 //! ```
 #![tactic(auto)]
 
-mod adding;
-mod ending;
+mod entries;
 mod error;
 mod handing;
-mod held;
-mod known;
 mod listeners;
-mod met;
-mod named;
 mod numbers;
 mod places;
-mod reading;
-mod renewing;
+mod renewal;
 mod requests;
-mod seeing;
 mod views;
 
 pub use error::ShownError;

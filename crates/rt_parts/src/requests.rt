@@ -52,7 +52,7 @@ impl Drop for Requests {
 
 impl Model for Requests {
     ghost use Rattle.std.specs.Prelude.{List};
-    ghost use Rattle.rt_world.specs.declared.request.Request.{Request};
+    ghost use Rattle.rt_world.specs.declared.step.Request.{Request};
     ghost use Rattle.rt_parts.specs.inside.Rising.{IsTied};
 
     ghost Value = { List Request };

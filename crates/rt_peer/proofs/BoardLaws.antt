@@ -11,8 +11,8 @@ use Rattle.rt_query.specs.Queries.{Query}
 use Rattle.rt_query.specs.QueryOrder.{query_cmp}
 use Rattle.rt_query.specs.laws.QueryOrder.{queries_total}
 use Rattle.rt_peer.specs.Peers.{Listen, in_place, is_before}
-use Rattle.rt_peer.specs.declared.spots.Owner.{Owner}
-use Rattle.rt_peer.specs.declared.watched.Watched.{Watched}
+use Rattle.rt_peer.specs.declared.listens.Owner.{Owner}
+use Rattle.rt_peer.specs.declared.views.Watched.{Watched}
 use Rattle.rt_peer.specs.inside.Looked.{at_query}
 use Rattle.rt_peer.specs.inside.Spots.{listen_of}
 use Rattle.rt_peer.specs.inside.Watched.{AreHeard, AreOf, IsOf}

@@ -2,7 +2,7 @@
 use Rattle.std.proofs.Common.{◌≡◌, ℕ, ◌==◌, ◌&&◌, ◌||◌, Bool, true, false, List, [], ◌∷◌, refl, sym, ap, ◌∙◌, append_assoc, arith, if◌then◌else◌}
 use Rattle.std.proofs.lemmas.Bool.Decides.{nat_tests}
 use Rattle.rt_wire.specs.declared.server.ServerMessage.TheVariants.{Push}
-use Rattle.rt_peer.specs.declared.sent.Sent.{Sent}
+use Rattle.rt_peer.specs.declared.pushes.Sent.{Sent}
 use Rattle.rt_peer.specs.Peers.{is_known}
 use Rattle.rt_peer.specs.Pushes.{parts_in, go_together, together, joined, bundled}
 use Rattle.rt_peer.specs.Runs.{says_no, is_refused}

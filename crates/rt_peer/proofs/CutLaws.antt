@@ -13,7 +13,7 @@ use Rattle.rt_tree.specs.PathTree.{Path}
 use Rattle.rt_tree.specs.Assignments.{Assignment, is_at_or_above}
 use Rattle.rt_peer.specs.Peers.{Deferred}
 use Rattle.rt_peer.specs.Calls.{has_entries, is_empty, without_below}
-use Rattle.rt_peer.specs.declared.action_place.Place.{Place}
+use Rattle.rt_peer.specs.declared.actions.Place.{Place}
 use Rattle.rt_peer.specs.inside.Placed.{apart, cut_at, deferred_of, deferreds_of, has_place, is_bare, is_dirty, is_of, place_cmp}
 use Rattle.rt_peer.specs.inside.Placed.{AreByPlace, AreListed, PlacedActions}
 use Rattle.rt_peer.proofs.PlacedLaws.{after_equal, less_all, list_is, none_at, or_rest, other_way, place_exact}

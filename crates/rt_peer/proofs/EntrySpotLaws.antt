@@ -19,7 +19,7 @@ use Rattle.std.proofs.lemmas.Map.Views.{All-after_first}
 use Rattle.rt_tree.specs.PathTree.{Path, path_cmp, paths_total, exact_paths}
 use Rattle.rt_tree.specs.Assignments.{Assignment, is_at_or_above}
 use Rattle.rt_peer.specs.Calls.{is_empty}
-use Rattle.rt_peer.specs.declared.action_place.Place.{Place}
+use Rattle.rt_peer.specs.declared.actions.Place.{Place}
 use Rattle.rt_peer.specs.declared.entry_spots.EntrySpot.{EntrySpot}
 use Rattle.rt_peer.specs.inside.EntrySpots.{entry_spot_cmp, entry_spots_total, has_entry_spot, is_under}
 use Rattle.rt_peer.specs.inside.EntrySpots.{AllSpotted, AreListedUnder, AreOthersKept, AreSpotsKept, HasSpots}

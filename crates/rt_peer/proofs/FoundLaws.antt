@@ -17,8 +17,8 @@ use Rattle.rt_tree.specs.Trees.{tree_eq}
 use Rattle.rt_tree.specs.Assignments.{Assignment, do_overlap, is_at_or_above}
 use Rattle.rt_peer.specs.Peers.{Listen, is_at, is_before}
 use Rattle.rt_peer.specs.Pushes.{is_changed, push_of, pushes, written}
-use Rattle.rt_peer.specs.declared.sent.Sent.{Sent}
-use Rattle.rt_peer.specs.declared.spots.Owner.{Owner}
+use Rattle.rt_peer.specs.declared.pushes.Sent.{Sent}
+use Rattle.rt_peer.specs.declared.listens.Owner.{Owner}
 use Rattle.rt_peer.specs.inside.Spots.{owner_cmp, owners_total, owner_of, spot_of, has_owner, is_concerned}
 use Rattle.rt_peer.specs.inside.Standing.{leaves_part, stands}
 use Rattle.rt_peer.proofs.PlaceLaws.{Rise}

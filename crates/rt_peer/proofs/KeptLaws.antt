@@ -11,7 +11,7 @@ use Rattle.std.proofs.lemmas.Map.Keys.{sorted_tail}
 use Rattle.rt_tree.specs.Assignments.{Assignment}
 use Rattle.rt_writes.specs.Writes.{IsShallow}
 use Rattle.rt_peer.specs.Calls.{is_empty}
-use Rattle.rt_peer.specs.declared.action_place.Place.{Place}
+use Rattle.rt_peer.specs.declared.actions.Place.{Place}
 use Rattle.rt_peer.specs.inside.Counts.{count_of, AreCountedBy}
 use Rattle.rt_peer.specs.inside.Placed.{has_place, is_bare, place_cmp, whose}
 use Rattle.rt_peer.specs.inside.Placed.{AllMarked, AreByPlace, AreKept, PlacedActions}

@@ -9,6 +9,7 @@ pub mod KeptLaws
 pub mod ListenLaws
 pub mod LookedLaws
 pub mod MetLaws
+pub mod NextLaws
 pub mod Numbers
 pub mod OrderLaws
 pub mod OwnedLaws

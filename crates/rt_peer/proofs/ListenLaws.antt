@@ -8,7 +8,7 @@ use Rattle.std.proofs.lemmas.List.Elements.{All-head, All-tail}
 use Rattle.rt_tree.specs.PathTree.{Path}
 use Rattle.rt_tree.specs.Assignments.{Assignment}
 use Rattle.rt_peer.specs.Peers.{Listen, in_place, is_at, is_before}
-use Rattle.rt_peer.specs.declared.spots.Spot.{Spot}
+use Rattle.rt_peer.specs.declared.listens.Spot.{Spot}
 use Rattle.rt_peer.specs.inside.Spots.{owner_cmp, spot_cmp, owners_total, spots_total, owner_of, spot_of, has_spot}
 use Rattle.rt_peer.specs.inside.Spots.{AllStand, Stand}
 use Rattle.rt_peer.specs.inside.Met.{numbers_of, picked, AreHanded, AreMet, AreSameOver, Met}

@@ -20,9 +20,9 @@ use Rattle.rt_query.specs.Queries.{Query, is_filtered}
 use Rattle.rt_wire.specs.declared.server.ServerMessage.TheVariants.{Data}
 use Rattle.rt_peer.specs.Peers.{Listen}
 use Rattle.rt_peer.specs.Pushes.{is_changed, parts_below, parts_message, push_of, pushes, seen, written}
-use Rattle.rt_peer.specs.declared.sent.Sent.{Sent}
-use Rattle.rt_peer.specs.declared.spots.Owner.{Owner}
-use Rattle.rt_peer.specs.declared.spots.Spot.{Spot}
+use Rattle.rt_peer.specs.declared.pushes.Sent.{Sent}
+use Rattle.rt_peer.specs.declared.listens.Owner.{Owner}
+use Rattle.rt_peer.specs.declared.listens.Spot.{Spot}
 use Rattle.rt_peer.specs.declared.write.Write.{Write}
 use Rattle.rt_peer.specs.inside.Met.{at_owner, entry_at, numbers_of, over, picked, AreHanded, AreMet, AreNoted, AreSameOver, IsHanded, IsMadeAt, Met, MeetsSo}
 use Rattle.rt_peer.specs.inside.Spots.{has_owner, is_concerned, listen_of, overlaps, owner_cmp, owner_of, owners_total, spot_of}

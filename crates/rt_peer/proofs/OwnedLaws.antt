@@ -17,7 +17,7 @@ use Rattle.std.proofs.lemmas.Map.Keys.{sorted_tail}
 use Rattle.std.proofs.lemmas.Map.Views.{All-after_first}
 use Rattle.rt_query.specs.Queries.{Query}
 use Rattle.rt_peer.specs.Peers.{Listen, in_place, is_at, is_before}
-use Rattle.rt_peer.specs.declared.spots.Owner.{Owner}
+use Rattle.rt_peer.specs.declared.listens.Owner.{Owner}
 use Rattle.rt_peer.specs.inside.Spots.{AreByOwner, owner_cmp, owners_total, listen_of, listens_of}
 use Rattle.rt_peer.proofs.PlaceLaws.{Rise}
 use Rattle.rt_peer.proofs.SpotLaws.{owner_exact, le_then, zero_first}

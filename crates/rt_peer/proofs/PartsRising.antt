@@ -17,7 +17,7 @@ use Rattle.rt_wire.specs.declared.client.ClientMessage.{ClientMessage}
 use Rattle.rt_wire.specs.declared.client.ClientMessage.TheVariants.{Hello, Listen as ListenTo, Unlisten, Ask}
 use Rattle.rt_wire.specs.declared.server.ServerMessage.{ServerMessage}
 use Rattle.rt_wire.specs.declared.server.ServerMessage.TheVariants.{Data, DataMerge, Push, Accepted, Refused, Revoked}
-use Rattle.rt_peer.specs.declared.sent.Sent.{Sent}
+use Rattle.rt_peer.specs.declared.pushes.Sent.{Sent}
 use Rattle.rt_peer.specs.Peers.{Deferred, Listen, Peer, is_before, is_denied, is_known}
 use Rattle.rt_peer.specs.Pushes.{bundled, go_together, is_changed, joined, parts_below, parts_in, parts_message}
 use Rattle.rt_peer.specs.Pushes.{push_of, pushes, pushes_after, seen, together, written}

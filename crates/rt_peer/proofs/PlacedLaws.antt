@@ -16,7 +16,7 @@ use Rattle.std.proofs.lemmas.Map.Keys.{sorted_tail}
 use Rattle.std.proofs.lemmas.Map.Views.{All-after_first}
 use Rattle.rt_tree.specs.Assignments.{Assignment}
 use Rattle.rt_peer.specs.Calls.{is_empty}
-use Rattle.rt_peer.specs.declared.action_place.Place.{Place}
+use Rattle.rt_peer.specs.declared.actions.Place.{Place}
 use Rattle.rt_peer.specs.inside.Counts.{count_of, AreCountedBy}
 use Rattle.rt_peer.specs.inside.Placed.{has_place, is_bare, is_of, place_cmp, places_total, whose, without_bare}
 use Rattle.rt_peer.specs.inside.Placed.{AllMarked, AreByPlace, PlacedActions}

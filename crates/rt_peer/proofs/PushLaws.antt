@@ -9,8 +9,8 @@ use Rattle.rt_tree.specs.Assignments.{Assignment, is_at_or_above}
 use Rattle.rt_query.specs.Queries.{Query, is_filtered}
 use Rattle.rt_wire.specs.declared.server.ServerMessage.{ServerMessage}
 use Rattle.rt_wire.specs.declared.server.ServerMessage.TheVariants.{Data}
-use Rattle.rt_peer.specs.declared.sent.Sent.{Sent}
-use Rattle.rt_peer.specs.declared.spots.Owner.{Owner}
+use Rattle.rt_peer.specs.declared.pushes.Sent.{Sent}
+use Rattle.rt_peer.specs.declared.listens.Owner.{Owner}
 use Rattle.rt_peer.specs.Peers.{Listen}
 use Rattle.rt_peer.specs.Pushes.{parts_below, parts_message, push_of, pushes, seen}
 use Rattle.rt_peer.specs.inside.Looked.{told_of}

@@ -19,7 +19,7 @@ use Rattle.std.proofs.lemmas.Map.Views.{All-after_first}
 use Rattle.rt_tree.specs.Assignments.{Assignment}
 use Rattle.rt_peer.specs.Peers.{Deferred, in_place, runs_before}
 use Rattle.rt_peer.specs.Turns.{without_first}
-use Rattle.rt_peer.specs.declared.action_place.Place.{Place}
+use Rattle.rt_peer.specs.declared.actions.Place.{Place}
 use Rattle.rt_peer.specs.inside.Counts.{count_of, AreCountedBy}
 use Rattle.rt_peer.specs.inside.Placed.{deferred_of, deferreds_of, first_own, is_of, place_cmp, places_total, whose}
 use Rattle.rt_peer.specs.inside.Placed.{AreByPlace, PlacedActions}

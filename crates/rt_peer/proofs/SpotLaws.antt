@@ -14,8 +14,8 @@ use Rattle.std.proofs.lemmas.Map.Views.{All-after_first}
 use Rattle.std.proofs.lemmas.Bool.Decides.{nat_tests}
 use Rattle.rt_tree.specs.PathTree.{Path, path_cmp, path_eq, path_eq-same, paths_total, exact_paths, key_eq, key_eq-is, strip}
 use Rattle.rt_tree.specs.Assignments.{is_at_or_above}
-use Rattle.rt_peer.specs.declared.spots.Owner.{Owner}
-use Rattle.rt_peer.specs.declared.spots.Spot.{Spot}
+use Rattle.rt_peer.specs.declared.listens.Owner.{Owner}
+use Rattle.rt_peer.specs.declared.listens.Spot.{Spot}
 use Rattle.rt_peer.specs.inside.Spots.{owner_cmp, owners_total, spot_cmp, has_owner, is_above, is_in, overlaps}
 use Rattle.rt_peer.specs.inside.Spots.{AreFound, AreKept}
 use Rattle.rt_peer.proofs.PathRuns.{above_first, above_itself, under_from, same_from}

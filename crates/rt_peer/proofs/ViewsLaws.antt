@@ -13,8 +13,8 @@ use Rattle.rt_query.specs.QueryOrder.{query_cmp}
 use Rattle.rt_query.specs.laws.QueryOrder.{queries_total}
 use Rattle.rt_peer.specs.Peers.{Listen}
 use Rattle.rt_peer.specs.Pushes.{written}
-use Rattle.rt_peer.specs.declared.spots.Owner.{Owner}
-use Rattle.rt_peer.specs.declared.watched.Watched.{Watched}
+use Rattle.rt_peer.specs.declared.listens.Owner.{Owner}
+use Rattle.rt_peer.specs.declared.views.Watched.{Watched}
 use Rattle.rt_peer.specs.inside.Looked.{at_query}
 use Rattle.rt_peer.specs.inside.Spots.{has_owner, is_concerned, listen_of, owner_of, spot_of}
 use Rattle.rt_peer.specs.inside.Watched.{tree_now, AreHeard, AreLeft, AreOf, AreTurned, GoesOn, IsOf, IsVisited}

@@ -13,7 +13,7 @@ use Rattle.rt_view.specs.declared.change.Change.TheVariants.{Value}
 use Rattle.rt_view.specs.Changes.{row_changes}
 use Rattle.rt_view.specs.Views.{View, renewed, shown_of, stays_object, told, touched, with_named}
 use Rattle.rt_peer.specs.Pushes.{seen, written}
-use Rattle.rt_peer.specs.declared.watched.Watched.{Watched}
+use Rattle.rt_peer.specs.declared.views.Watched.{Watched}
 use Rattle.rt_peer.specs.inside.Looked.{told_of}
 use Rattle.rt_peer.specs.inside.Standing.{leaves_part}
 use Rattle.rt_peer.specs.inside.Watched.{children_at, named_keys, IsOf, IsViewOf}

@@ -14,7 +14,7 @@ use Rattle.rt_wire.specs.declared.server.ServerMessage.{ServerMessage}
 use Rattle.rt_wire.specs.declared.server.ServerMessage.TheVariants.{Data, Accepted, Refused, Revoked}
 use Rattle.rt_peer.specs.declared.error.PeerError.{PeerError}
 use Rattle.rt_peer.specs.declared.error.PeerError.TheVariants.{Failed, UnknownConnection}
-use Rattle.rt_peer.specs.declared.sent.Sent.{Sent}
+use Rattle.rt_peer.specs.declared.pushes.Sent.{Sent}
 use Rattle.rt_peer.specs.Peers.{Deferred, Peer, in_place, is_known, least_free, is_denied}
 use Rattle.rt_peer.specs.Peers.{stands_too_deep, is_before, runs_before, is_at}
 use Rattle.rt_peer.specs.Pushes.{written, seen, pushes, bundled, tree_after, pushes_after}

@@ -1,7 +1,7 @@
 -- What a peer holds: its tree, the denied paths, the known connections and which of them read messages
 -- of version 2, their listens, and what is to be done when they end.
-use Rattle.std.specs.Prelude.{ℕ, ◌+◌, Bool, not, ◌==◌, ◌&&◌, ◌||◌, nat_lt, if◌then◌else◌, List, []}
-use Rattle.std.specs.Prelude.{◌∷◌, ◌++◌}
+use Rattle.std.specs.Prelude.{ℕ, ◌+◌, Bool, true, not, ◌==◌, ◌&&◌, ◌||◌, nat_lt, if◌then◌else◌, List, []}
+use Rattle.std.specs.Prelude.{◌∷◌, ◌++◌, Option, Some, None}
 use Rattle.std.specs.List.{filter, fold, list_any}
 use Rattle.rt_tree.specs.PathTree.{Path, PathTree}
 use Rattle.rt_tree.specs.Assignments.{Assignment, do_overlap}
@@ -68,3 +68,14 @@ runs_before a b = nat_lt a.connection b.connection || a.connection == b.connecti
 -- whether it is that connection's listen with that tag
 abbrev pub is_at : ℕ → ℕ → Listen → Bool
 is_at connection tag l = l.connection == connection && l.tag == tag
+
+-- ---- what a connection listens to
+
+-- whether a tag comes behind that one, as each does where there is none
+abbrev pub is_behind : Option ℕ → ℕ → Bool
+is_behind None tag = true
+is_behind (Some above) tag = nat_lt above tag
+
+-- a connection's listens behind that tag, in the order of their tags
+abbrev pub listens_behind : ℕ → Option ℕ → List Listen → List Listen
+listens_behind n above listens = filter (λ l. l.connection == n && is_behind above l.tag) listens

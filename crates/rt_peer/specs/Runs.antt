@@ -10,7 +10,7 @@ use Rattle.rt_wire.specs.declared.client.ClientMessage.TheVariants.{Hello, Liste
 use Rattle.rt_wire.specs.declared.server.ServerMessage.{ServerMessage}
 use Rattle.rt_wire.specs.declared.server.ServerMessage.TheVariants.{Data, DataMerge, Push, Accepted}
 use Rattle.rt_wire.specs.declared.server.ServerMessage.TheVariants.{Refused, Revoked}
-use Rattle.rt_peer.specs.declared.sent.Sent.{Sent}
+use Rattle.rt_peer.specs.declared.pushes.Sent.{Sent}
 use Rattle.rt_peer.specs.Peers.{Peer, is_known}
 use Rattle.rt_peer.specs.Calls.{Outcome, connected, answered, disconnected, actions_of, entries_of}
 use Rattle.rt_peer.specs.Turns.{first_actions, turned}

@@ -1,11 +1,14 @@
 // The known connections.
 ghost use Rattle.std.specs.Prelude.{◌≡◌, ◌<◌, ◌≤◌, ℕ, nat_lt, not, ◌==◌, [], true, false, IfOk, OnOk, OnErr};
+ghost use Rattle.std.specs.Prelude.{◌+◌, ◌-◌, if◌then◌else◌};
 ghost use Rattle.std.specs.List.{filter};
 ghost use Rattle.rt_peer.specs.Peers.{in_place, is_known, least_free};
 ghost use Rattle.rt_peer.specs.Calls.{marked};
+ghost use Rattle.rt_peer.specs.inside.Rising.{RisesFrom};
+ghost use Rattle.rt_peer.specs.inside.Counts.{count_of};
 
-use crate::rising::has_number;
 use std::alloc::{AllocError, Global};
+use std::collections::BTreeMap;
 use std::marker::Model;
 
 // The numbers of the known connections, each from 1, which rise.
@@ -120,4 +123,121 @@ pub(crate) fn mark(numbers: &mut Vec<u64>, number: u64, is_there: bool) -> Resul
         *numbers = all;
     }
     Ok(())
+}
+
+// ---- numbers of connections in rising order, each found by halving
+
+// Whether the number is one of these, by halving.
+pub(crate) fn has_number(numbers: &[u64], number: u64) -> bool
+    requires { RisesFrom 0 numbers.now }
+    ensures { result ≡ is_known numbers.now number }
+{
+    numbers.binary_search(&number).is_ok()
+}
+
+// Numbers that rise.
+pub(crate) struct Rising {
+    numbers: Vec<u64>,
+}
+
+impl Drop for Rising {
+    fn drop(self) {
+        let Rising { numbers: _ } = self;
+    }
+}
+
+impl Model for Rising {
+    ghost use Rattle.std.specs.Prelude.{List, ℕ};
+    ghost use Rattle.rt_peer.specs.inside.Rising.{RisesFrom};
+
+    ghost Value = { List ℕ };
+
+    ghost view = { λ a. a.numbers.items };
+
+    ghost invariant = { λ a. RisesFrom 0 a.numbers.items };
+}
+
+impl Rising {
+    pub(crate) fn new(alloc: Global) -> Rising
+        ensures { result ≡ [] }
+    {
+        Rising {
+            numbers: Vec::new(alloc),
+        }
+    }
+
+    pub(crate) fn has(&self, number: u64) -> bool
+        ensures { result ≡ is_known self.now number }
+    {
+        has_number(&self.numbers, number)
+    }
+
+    // Takes a number out, if it is there.
+    pub(crate) fn remove(&mut self, number: u64)
+        ensures { self.new ≡ filter (λ m. not (m == number)) self.old }
+    {
+        remove_number(&mut self.numbers, number);
+    }
+
+    // Puts a number in its place, or takes it out.
+    pub(crate) fn mark(&mut self, number: u64, is_there: bool) -> Result<(), AllocError>
+        ensures { OnOk result (self.new ≡ marked is_there number self.old) }
+    {
+        mark(&mut self.numbers, number, is_there)
+    }
+}
+
+// ---- how many of something each connection has
+
+// How many the connection has.
+pub(crate) fn count_of(counts: &BTreeMap<u64, usize>, connection: u64) -> usize
+    ensures { result ≡ count_of counts.now.entries connection }
+{
+    match counts.get(&connection) {
+        Some(count) => *count,
+        None => 0,
+    }
+}
+
+// The connection has one more. The count can't run over, since each one takes memory.
+pub(crate) fn raise(counts: &mut BTreeMap<u64, usize>, connection: u64) -> Result<(), AllocError>
+    ensures ok { OnOk result ((n : ℕ) → count_of counts.new.entries n
+        ≡ count_of counts.old.entries n + (if connection == n then 1 else 0)) }
+    ensures err { OnErr result ((n : ℕ) → count_of counts.new.entries n
+        ≡ count_of counts.old.entries n) }
+{
+    let Some(count) = count_of(counts, connection).checked_add(1) else {
+        return Err(AllocError);
+    };
+    match counts.insert(connection, count) {
+        Ok(_) => Ok(()),
+        Err(_) => Err(AllocError),
+    }
+}
+
+// The connection has one less, if it has any. Takes no memory.
+pub(crate) fn lower(counts: &mut BTreeMap<u64, usize>, connection: u64)
+    ensures { (n : ℕ) → count_of counts.new.entries n
+        ≡ count_of counts.old.entries n - (if connection == n then 1 else 0) }
+{
+    let count = count_of(counts, connection);
+    if count <= 1 {
+        counts.remove(&connection);
+        return;
+    }
+    match counts.insert(connection, count - 1) {
+        Ok(_) => {}
+        Err(_) => {}
+    }
+}
+
+// ---- how much a connection holds
+
+/// How many listens and actions a connection has.
+#[derive(Clone, Copy, Debug, PartialEq, Eq)]
+pub struct Held {
+    /// Its listens, each with a tag of its own.
+    pub listens: usize,
+    /// What is to be done when it ends: the requests that are kept, of which several may have one number.
+    pub actions: usize,
 }

@@ -10,7 +10,7 @@ ghost use Rattle.std.specs.Ordering.{eq_by_cmp};
 ghost use Rattle.rt_peer.specs.inside.EntrySpots.{entry_spot_cmp, entry_spots_total, is_under};
 ghost use Rattle.rt_peer.specs.inside.EntrySpots.{AreListedUnder, AreOthersKept, AreSpotsKept, HasSpots};
 
-use crate::action_place::{Place, first_place};
+use crate::actions::{Place, first_place};
 use rt_tree::Path;
 use rt_writes::Entries;
 use std::alloc::{AllocError, Global};

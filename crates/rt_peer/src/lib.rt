@@ -11,43 +11,26 @@
 //! A contract sees a peer as what it holds (`specs/Peers.antt`), none once it has lacked memory.
 #![tactic(auto)]
 
-mod action_place;
-mod board;
-mod bundles;
+mod actions;
 mod connections;
-mod counts;
-mod deferred;
 mod entry_spots;
 mod error;
 mod examples;
-mod heard;
-mod held;
 mod laws;
 mod lengths;
-mod listen;
-mod looked;
-mod measured;
-mod met;
-mod numbered;
+mod listens;
 mod peer;
-mod placed;
 mod pushes;
-mod rising;
-mod sent;
-mod shown;
-mod spots;
-mod standing;
 mod state;
 mod views;
-mod watched;
 mod write;
 
+pub use connections::Held;
 pub use error::PeerError;
 pub use examples::{
     order_examples, peer_pushes_parts, push_refutations, run_examples, sent_examples,
     turn_examples, version_refutations,
 };
-pub use held::Held;
 pub use laws::{connections_law, orders_law, pushes_law, run_law, turns_law, versions_law};
 pub use peer::Peer;
-pub use sent::Sent;
+pub use pushes::Sent;

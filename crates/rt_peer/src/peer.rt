@@ -1,8 +1,8 @@
 // The peer.
-ghost use Rattle.std.specs.Prelude.{◌≡◌, ◌==◌, ◌<◌, ◌≤◌, ◌⊎◌, ◌↔◌, ℕ, length, true, false};
-ghost use Rattle.std.specs.Prelude.{IfOk, IfErr, IfSome, OnErr, Some, None, Ok, Err};
+ghost use Rattle.std.specs.Prelude.{◌≡◌, ◌==◌, ◌<◌, ◌≤◌, ◌⊎◌, ◌↔◌, ◌∷◌, [], ℕ, length, true, false};
+ghost use Rattle.std.specs.Prelude.{IfOk, IfErr, IfNone, IfSome, OnErr, Some, None, Ok, Err};
 ghost use Rattle.std.specs.Result.{result_err};
-ghost use Rattle.rt_peer.specs.Peers.{is_known, least_free, new_peer};
+ghost use Rattle.rt_peer.specs.Peers.{is_known, least_free, listens_behind, new_peer};
 ghost use Rattle.std.specs.List.{All, filter};
 ghost use Rattle.rt_writes.specs.Writes.{IsShallow};
 ghost use Rattle.rt_peer.specs.Lengths.{capped, text_length};
@@ -10,9 +10,9 @@ ghost use Rattle.rt_peer.specs.Pushes.{seen, written};
 ghost use Rattle.rt_peer.specs.Calls.{actions_of, answered, connected, disconnected, fault};
 ghost use Rattle.rt_peer.specs.Turns.{is_last_turn, turned};
 
+use crate::connections::Held;
 use crate::error::PeerError;
-use crate::held::Held;
-use crate::sent::Sent;
+use crate::pushes::Sent;
 use crate::state::State;
 use rt_query::Query;
 use rt_tree::{Path, Tree};
@@ -117,6 +117,21 @@ impl Peer {
         ensures actions { IfSome self.now (λ p. result.actions ≡ length (actions_of p connection)) }
     {
         self.state.held(connection)
+    }
+
+    /// The connection's listen with the least tag above that one, or with the least tag of all: its tag, and what
+    /// it listens to. None where there is no such listen.
+    ///
+    /// Costs by a logarithm. So a server may show what a connection listens to, one listen after another.
+    pub fn next_listen(&self, connection: u64, above: Option<u64>) -> Option<(u64, &Query)>
+        ensures some { IfSome result (λ next. IfSome self.now
+            (λ p. listens_behind connection above p.listens
+            ≡ record { connection = connection; tag = next.0; query = next.1.now }
+            ∷ listens_behind connection (Some next.0) p.listens)) }
+        ensures none { IfNone result
+            (IfSome self.now (λ p. listens_behind connection above p.listens ≡ [])) }
+    {
+        self.state.next_listen(connection, above)
     }
 
     /// Begins a connection, with the least number from 1 that no known connection has.

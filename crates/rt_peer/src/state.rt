@@ -1,38 +1,36 @@
 // What a peer holds.
-ghost use Rattle.std.specs.Prelude.{◌≡◌, ◌++◌, ◌==◌, ◌<◌, ◌≤◌, ℕ, true, false, length, not, if◌then◌else◌};
-ghost use Rattle.std.specs.Prelude.{IfOk, OnOk};
+ghost use Rattle.std.specs.Prelude.{◌≡◌, ◌++◌, ◌∷◌, [], ◌==◌, ◌<◌, ◌≤◌, ℕ, true, false, length, not};
+ghost use Rattle.std.specs.Prelude.{if◌then◌else◌, Some, IfNone, IfOk, IfSome, OnOk};
 ghost use Rattle.std.specs.List.{All, filter, list_any};
 ghost use Rattle.std.specs.Option.{option_copied};
 ghost use Rattle.rt_writes.specs.Writes.{IsShallow};
-ghost use Rattle.rt_wire.specs.declared.server.ServerMessage.TheVariants as ServerMessage;
 ghost use Rattle.rt_peer.specs.Lengths.{capped, text_length};
-ghost use Rattle.rt_peer.specs.Peers.{is_denied, is_known, least_free, new_peer};
-ghost use Rattle.rt_peer.specs.Pushes.{bundled, pushes, pushes_after, seen as shown, tree_after};
-ghost use Rattle.rt_peer.specs.Pushes.{written};
-ghost use Rattle.rt_peer.specs.Calls.{actions_of, answered, asked as outcome, cancelled, connected};
-ghost use Rattle.rt_peer.specs.Calls.{deferred, disconnected, ended, greeted, is_bad, kept, listened};
-ghost use Rattle.rt_peer.specs.Calls.{one, refusal, unlistened, wrote};
+ghost use Rattle.rt_peer.specs.Peers.{is_denied, is_known, least_free, listens_behind, new_peer, in_place};
+ghost use Rattle.rt_peer.specs.Peers.{is_at, is_before};
+ghost use Rattle.rt_peer.specs.Pushes.{bundled, pushes, pushes_after, seen as shown, tree_after, written};
+ghost use Rattle.rt_peer.specs.Calls.{actions_of, answered, asked as outcome, cancelled, connected, deferred};
+ghost use Rattle.rt_peer.specs.Calls.{disconnected, ended, greeted, is_bad, kept, listened, one, refusal};
+ghost use Rattle.rt_peer.specs.Calls.{unlistened, wrote};
 ghost use Rattle.rt_peer.specs.Turns.{first_actions, is_last_turn, turn_begun, turned};
+ghost use Rattle.rt_peer.specs.inside.Spots.{listen_of};
+ghost use Rattle.rt_wire.specs.declared.server.ServerMessage.TheVariants as ServerMessage;
 ghost use Rattle.rt_wire.specs.declared.request.Asked.TheVariants as Asked;
 ghost use Rattle.rt_wire.specs.declared.request.Ending.TheVariants as Ending;
 
-use crate::board::Board;
-use crate::bundles::bundle;
-use crate::connections::Connections;
-use crate::deferred::{Actions, Deferred};
-use crate::heard::Heard;
-use crate::held::Held;
-use crate::lengths::text_len;
-use crate::rising::Rising;
-use crate::sent::Sent;
-use crate::shown::seen;
-use crate::spots::Owner;
+use crate::actions::{Actions, Deferred};
+use crate::connections::{Connections, Held, Rising};
+use crate::lengths::{Measured, text_len};
+use crate::listens::{Heard, Listens, Owner};
+use crate::pushes::{Sent, bundle, push_all};
+use crate::views::{Views, seen};
+use crate::write::Write;
 use rt_query::Query;
 use rt_tree::{Path, Tree};
 use rt_wire::{Action, Asked, ClientMessage, Ending, Reason, ServerMessage, some_stands_too_deep};
 use rt_writes::Entries;
 use std::alloc::{AllocError, Global};
 use std::marker::Model;
+use std::mem::replace;
 
 // The tree with the listens to it, the denied paths, the known connections and those that read version 2, and what
 // is to be done when they end, by connection and number.
@@ -135,6 +133,16 @@ impl State {
             listens: self.board.count_of(connection),
             actions: self.actions.count_of(connection),
         }
+    }
+
+    // The connection's next listen behind that tag: its tag, and its query.
+    pub(crate) fn next_listen(&self, connection: u64, above: Option<u64>) -> Option<(u64, &Query)>
+        ensures some { IfSome result (λ next. listens_behind connection above self.now.listens
+            ≡ record { connection = connection; tag = next.0; query = next.1.now }
+            ∷ listens_behind connection (Some next.0) self.now.listens) }
+        ensures none { IfNone result (listens_behind connection above self.now.listens ≡ []) }
+    {
+        self.board.next_of(connection, above)
     }
 
     // A new connection, with the least free number.
@@ -471,4 +479,156 @@ fn refuse(alloc: Global, to: u64, id: u64, why: &str) -> Result<Vec<Sent>, Alloc
 {
     let why = reason(alloc, why)?;
     one(alloc, to, ServerMessage::Refused { id, why })
+}
+
+// ---- the tree, and who listens to what of it
+
+// The tree with its length, the listens, and a view for each filtered query that a write has met since somebody came to listen to
+// it, or left.
+pub(crate) struct Board {
+    tree: Measured,
+    listens: Listens,
+    views: Views,
+}
+
+impl Drop for Board {
+    fn drop(self) {
+        let Board {
+            tree: _,
+            listens: _,
+            views: _,
+        } = self;
+    }
+}
+
+impl Model for Board {
+    ghost use Rattle.rt_peer.specs.inside.Boards.{Board};
+    ghost use Rattle.rt_peer.specs.inside.Watched.{AreHeard, AreOf};
+
+    ghost Value = { Board };
+
+    ghost view = { λ a. record { tree = a.tree; listens = a.listens } };
+
+    ghost invariant = { λ a. AreOf a.tree a.views × AreHeard a.listens a.views };
+}
+
+impl Board {
+    pub(crate) fn new(alloc: Global, tree: Tree) -> Board
+        ensures { result ≡ record { tree = tree; listens = [] } }
+    {
+        Board {
+            tree: Measured::of(tree),
+            listens: Listens::new(alloc),
+            views: Views::new(alloc),
+        }
+    }
+
+    pub(crate) fn tree(&self) -> &Tree
+        ensures { result.now ≡ self.now.tree }
+    {
+        self.tree.tree()
+    }
+
+    // How many bytes the tree has as JSON; the largest number where it has more.
+    pub(crate) fn text_len(&self) -> usize
+        ensures { result ≡ capped (text_length self.now.tree) }
+    {
+        self.tree.text_len()
+    }
+
+    // How many it would have with the entries.
+    pub(crate) fn text_len_with(
+        &self,
+        alloc: Global,
+        entries: &[(Path, Tree)],
+    ) -> Result<usize, AllocError>
+        requires { All IsShallow entries.now }
+        ensures { IfOk result (λ len. len ≡ capped (text_length (written self.now.tree entries.now))) }
+    {
+        let mut after = self.tree.copy(alloc)?;
+        after.put_all(alloc, entries)?;
+        Ok(after.text_len())
+    }
+
+    // How many listens the connection has.
+    pub(crate) fn count_of(&self, connection: u64) -> usize
+        ensures { result ≡ length (filter (λ l. l.connection == connection) self.now.listens) }
+    {
+        self.listens.count_of(connection)
+    }
+
+    // The connection's next listen behind that tag: its tag, and its query.
+    pub(crate) fn next_of(&self, connection: u64, above: Option<u64>) -> Option<(u64, &Query)>
+        ensures some { IfSome result (λ next. listens_behind connection above self.now.listens
+            ≡ record { connection = connection; tag = next.0; query = next.1.now }
+            ∷ listens_behind connection (Some next.0) self.now.listens) }
+        ensures none { IfNone result (listens_behind connection above self.now.listens ≡ []) }
+    {
+        self.listens.next_of(connection, above)
+    }
+
+    // Takes out the owner's listen, if there is one. The view of its query is made anew where another one listens
+    // to that.
+    pub(crate) fn remove(&mut self, owner: Owner)
+        ensures { self.new ≡ record self.old {
+          listens = filter (λ l. not (is_at owner.connection owner.tag l)) self.old.listens;
+        } }
+    {
+        match self.listens.remove(owner) {
+            Some(heard) => self.views.forget(&heard),
+            None => {}
+        }
+    }
+
+    // Keeps a listen, in the place of the connection's older one with its tag.
+    pub(crate) fn keep(
+        &mut self,
+        alloc: Global,
+        owner: Owner,
+        query: Heard,
+    ) -> Result<(), AllocError>
+        ensures { OnOk result (self.new ≡ record self.old {
+          listens = in_place is_before (listen_of (owner, query))
+              (filter (λ l. not (is_at owner.connection owner.tag l)) self.old.listens);
+        }) }
+    {
+        self.remove(owner);
+        match self.listens.keep(owner, query) {
+            Ok(()) => Ok(()),
+            Err(_) => {
+                self.views = Views::new(alloc);
+                Err(AllocError)
+            }
+        }
+    }
+
+    // Takes out the connection's listens. Costs by these.
+    pub(crate) fn remove_of(&mut self, connection: u64)
+        ensures { self.new ≡ record self.old {
+          listens = filter (λ l. not (l.connection == connection)) self.old.listens;
+        } }
+    {
+        while let Some(first) = self.listens.first_of(connection) {
+            self.remove(first);
+        }
+    }
+
+    // Puts the entries into the tree, and gives what the listens are sent.
+    pub(crate) fn put(
+        &mut self,
+        alloc: Global,
+        entries: &[(Path, Tree)],
+    ) -> Result<Vec<Sent>, AllocError>
+        requires { All IsShallow entries.now }
+        ensures board { OnOk result
+            (self.new ≡ record self.old { tree = written self.old.tree entries.now }) }
+        ensures sent { IfOk result (λ sent. sent.items ≡ pushes self.old.tree
+            (written self.old.tree entries.now) entries.now self.old.listens) }
+    {
+        let views = replace(&mut self.views, Views::new(alloc));
+        let write = Write::of(alloc, &mut self.tree, entries)?;
+        let (views, sent) = push_all(alloc, &write, entries, &self.listens, views)?;
+        self.views = views;
+        Ok(sent)
+    }
 }

@@ -1,12 +1,23 @@
 // A write, as listens are told of it.
-ghost use Rattle.std.specs.Prelude.{◌≡◌, IfOk, OnOk};
-ghost use Rattle.std.specs.List.{All};
+ghost use Rattle.std.specs.Prelude.{◌≡◌, IfOk, OnOk, ◌++◌, ◌∷◌, [], None, if◌then◌else◌};
+ghost use Rattle.std.specs.List.{All, list_all, list_any};
+ghost use Rattle.std.specs.Option.{unwrap_or};
+ghost use Rattle.std.specs.Ordering.{is_eq};
 ghost use Rattle.rt_writes.specs.Writes.{IsShallow};
 ghost use Rattle.rt_peer.specs.Pushes.{written};
+ghost use Rattle.rt_peer.specs.inside.Met.{at_owner, entry_at, picked, AreMet, AreNoted, MeetsSo};
+ghost use Rattle.rt_peer.specs.inside.Spots.{has_owner, owner_cmp};
+ghost use Rattle.rt_tree.specs.Assignments.{is_at_or_above};
+ghost use Rattle.rt_tree.specs.PathTree.{sub};
+ghost use Rattle.rt_tree.specs.Trees.{tree_eq};
+ghost use Rattle.rt_peer.specs.inside.Standing.{leaves_part, stands, tells_apart};
 
-use crate::measured::Measured;
+use crate::lengths::Measured;
+use crate::listens::{Owner, Spot, gather};
 use rt_tree::{Path, Tree};
 use std::alloc::{AllocError, Global};
+use std::collections::{BTreeMap, BTreeSet};
+use std::marker::Model;
 
 // The tree before a write, and after it.
 pub(crate) struct Write {
@@ -40,4 +51,223 @@ impl Write {
         let after = tree.tree().copy(alloc)?;
         Ok(Write { before, after })
     }
+}
+
+// ---- the numbers of some entries of a write
+
+// Numbers, as they were added.
+pub(crate) struct Numbers {
+    numbers: Vec<usize>,
+}
+
+impl Drop for Numbers {
+    fn drop(self) {
+        let Numbers { numbers: _ } = self;
+    }
+}
+
+impl Model for Numbers {
+    ghost use Rattle.std.specs.Prelude.{List, ℕ};
+
+    ghost Value = { List ℕ };
+
+    ghost view = { λ a. a.numbers.items };
+}
+
+impl Numbers {
+    pub(crate) fn new(alloc: Global) -> Numbers
+        ensures { result ≡ [] }
+    {
+        Numbers {
+            numbers: Vec::new(alloc),
+        }
+    }
+
+    // Adds a number.
+    pub(crate) fn push(&mut self, number: usize) -> Result<(), AllocError>
+        ensures { OnOk result (self.new ≡ self.old ++ number ∷ []) }
+    {
+        self.numbers.push(number)?;
+        Ok(())
+    }
+
+    pub(crate) fn as_slice(&self) -> &[usize]
+        ensures { result.now ≡ self.now }
+    {
+        &self.numbers
+    }
+}
+
+// ---- which entries of a write meet whose listens, so that each listen is handed its own entries
+// and no others
+
+// Takes out the numbers of the owner's entries.
+fn take(alloc: Global, met: &mut BTreeMap<Owner, Numbers>, owner: Owner) -> Numbers
+    ensures taken { result ≡ unwrap_or (at_owner met.old.entries owner) [] }
+    ensures left { (o : Owner) → at_owner met.new.entries o
+        ≡ if is_eq (owner_cmp owner o) then None else at_owner met.old.entries o }
+{
+    match met.remove(&owner) {
+        Some(numbers) => numbers,
+        None => Numbers::new(alloc),
+    }
+}
+
+// Notes the number of an entry for the owner.
+fn note(
+    alloc: Global,
+    met: &mut BTreeMap<Owner, Numbers>,
+    owner: Owner,
+    number: usize,
+) -> Result<(), AllocError>
+    ensures { OnOk result (AreNoted (λ o. is_eq (owner_cmp owner o)) number met.old.entries met.new.entries) }
+{
+    let mut numbers = take(alloc, met, owner);
+    numbers.push(number)?;
+    match met.insert(owner, numbers) {
+        Ok(_) => Ok(()),
+        Err(_) => Err(AllocError),
+    }
+}
+
+// Notes the number of an entry for each of the owners.
+fn note_each(
+    alloc: Global,
+    met: &mut BTreeMap<Owner, Numbers>,
+    owners: &BTreeSet<Owner>,
+    number: usize,
+) -> Result<(), AllocError>
+    ensures { OnOk result (AreNoted (has_owner owners.now.keys) number met.old.entries met.new.entries) }
+{
+    for owner in owners.iter() {
+        note(alloc, met, *owner, number)?;
+    }
+    Ok(())
+}
+
+// Notes the number of the entry of that path for those whose spots it overlaps.
+fn note_entry(
+    alloc: Global,
+    met: &mut BTreeMap<Owner, Numbers>,
+    spots: &BTreeSet<Spot>,
+    path: &Path,
+    number: usize,
+) -> Result<(), AllocError>
+    ensures { OnOk result (All (MeetsSo path.now number met.old.entries met.new.entries) spots.now.keys) }
+{
+    let mut found = BTreeSet::new(alloc);
+    gather(alloc, spots, path, &mut found)?;
+    note_each(alloc, met, &found, number)
+}
+
+// By the owner of each spot, the numbers of the entries whose paths overlap its path, in order.
+pub(crate) fn entries_met(
+    alloc: Global,
+    spots: &BTreeSet<Spot>,
+    entries: &[(Path, Tree)],
+) -> Result<BTreeMap<Owner, Numbers>, AllocError>
+    ensures { IfOk result (λ met. AreMet entries.now entries.now met.entries spots.now.keys) }
+{
+    let mut met = BTreeMap::new(alloc);
+    for at in 0..entries.len() {
+        let entry = &entries[at];
+        note_entry(alloc, &mut met, spots, &entry.0, at)?;
+    }
+    Ok(met)
+}
+
+// Adds the entry of that number.
+fn push_entry(
+    alloc: Global,
+    own: &mut Vec<(Path, Tree)>,
+    entries: &[(Path, Tree)],
+    number: usize,
+) -> Result<(), AllocError>
+    ensures { OnOk result (own.new.items ≡ own.old.items ++ entry_at entries.now number) }
+{
+    match entries.get(number) {
+        Some(entry) => {
+            own.push((entry.0.copy()?, entry.1.copy(alloc)?))?;
+            Ok(())
+        }
+        None => Ok(()),
+    }
+}
+
+// The entries of these numbers.
+pub(crate) fn picked(
+    alloc: Global,
+    entries: &[(Path, Tree)],
+    numbers: &[usize],
+) -> Result<Vec<(Path, Tree)>, AllocError>
+    ensures { IfOk result (λ own. own.items ≡ picked entries.now numbers.now) }
+{
+    let mut own = Vec::new(alloc);
+    for number in numbers {
+        push_entry(alloc, &mut own, entries, *number)?;
+    }
+    Ok(own)
+}
+
+// ---- what a write leaves as it is at a path, and where it is seen that it does not
+
+// Whether an entry is at or above the path.
+pub(crate) fn is_any_above(entries: &[(Path, Tree)], path: &Path) -> bool
+    ensures { result ≡ list_any (λ a. is_at_or_above a.0 path.now) entries.now }
+{
+    entries.iter().any(|entry| entry.0.is_prefix_of(path))
+}
+
+// Whether the tree has just this part at the path.
+fn has_part(tree: &Tree, path: &Path, part: &Tree) -> bool
+    ensures { result ≡ tree_eq (sub tree.now path.now) part.now }
+{
+    match tree.get(path) {
+        Some(there) => there == part,
+        None => part.is_null(),
+    }
+}
+
+// Whether an entry, where it is at or below the path, writes what the tree has there.
+fn stands(tree: &Tree, path: &Path, entry: &(Path, Tree)) -> bool
+    ensures { result ≡ stands tree.now path.now entry.now }
+{
+    !path.is_prefix_of(&entry.0) || has_part(tree, &entry.0, &entry.1)
+}
+
+// Whether the entries at and below the path write what the tree has there.
+fn all_stand(tree: &Tree, path: &Path, entries: &[(Path, Tree)]) -> bool
+    ensures { result ≡ list_all (stands tree.now path.now) entries.now }
+{
+    entries.iter().all(|entry| stands(tree, path, entry))
+}
+
+// Whether no entry is above the path, and those at or below it write what the tree has there: then the part
+// at the path stays as it is. Costs by the entries.
+pub(crate) fn leaves_part(tree: &Tree, path: &Path, entries: &[(Path, Tree)]) -> bool
+    ensures { result ≡ leaves_part tree.now path.now entries.now }
+{
+    !is_any_above(entries, path) && all_stand(tree, path, entries)
+}
+
+// Whether the two trees have the same at the path.
+pub(crate) fn is_same_at(before: &Tree, after: &Tree, path: &Path) -> bool
+    ensures { result ≡ tree_eq (sub before.now path.now) (sub after.now path.now) }
+{
+    match after.get(path) {
+        Some(part) => has_part(before, path, part),
+        None => before.get(path).is_none(),
+    }
+}
+
+// Whether the two trees differ where an entry at or below the path writes. Costs by the entries.
+pub(crate) fn differ_below(
+    before: &Tree,
+    after: &Tree,
+    path: &Path,
+    entries: &[(Path, Tree)],
+) -> bool
+    ensures { result ≡ list_any (tells_apart before.now after.now path.now) entries.now }
+{
+    entries.iter().any(|entry| path.is_prefix_of(&entry.0) && !is_same_at(before, after, &entry.0))
 }

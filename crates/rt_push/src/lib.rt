@@ -8,11 +8,8 @@
 //! ```
 #![tactic(auto)]
 
-mod digits;
 mod error;
-mod laws;
 mod push_ids;
 
 pub use error::PushError;
-pub use laws::{digits_stand, examples, ids_rise};
-pub use push_ids::PushIds;
+pub use push_ids::{PushIds, digits_stand, examples, ids_rise};

@@ -1,11 +1,14 @@
 // The source of push ids.
-ghost use Rattle.std.specs.Prelude.{◌≡◌, ◌≤◌, ◌<◌, ◌^◌, ℕ, Option, Some, None, IfOk, OnOk, OnErr};
+ghost use Rattle.std.specs.Prelude.{◌≡◌, ◌≤◌, ◌<◌, ◌^◌, ℕ, Option, Some, None, IfOk, OnOk, OnErr, IsTrue};
+ghost use Rattle.std.specs.Prelude.{length};
 ghost use Rattle.std.specs.Result.{result_err};
 ghost use Rattle.std.specs.Str.{IsUtf8};
-ghost use Rattle.rt_push.specs.Digits.{number};
+ghost use Rattle.std.specs.List.{list_all};
+ghost use Rattle.rt_push.specs.Digits.{number, digit_byte, is_digit, text};
 ghost use Rattle.rt_push.specs.PushIds.{Stamp, push_fault, push_id, used};
+ghost use Rattle.rt_push.specs.laws.Examples.{EarlierCountsUp, FirstCauseCounts, IdsAsWritten};
+ghost use Rattle.rt_push.specs.laws.Ids.{DigitsStand, IdsRise};
 
-use crate::digits;
 use crate::error::PushError;
 use std::marker::Model;
 
@@ -28,8 +31,8 @@ impl Stamp {
         ensures { result ≡ push_id (self.now.moment, self.now.random) }
     {
         let mut id = [0; 20];
-        digits::write(&mut id[..8], u128::from(self.moment));
-        digits::write(&mut id[8..], self.random);
+        write(&mut id[..8], u128::from(self.moment));
+        write(&mut id[8..], self.random);
         id
     }
 }
@@ -100,10 +103,10 @@ impl PushIds {
         if now_ms >= MOMENTS {
             return Err(PushError::MomentTooLarge);
         }
-        if !digits::all_digits(&random) {
+        if !all_digits(&random) {
             return Err(PushError::RandomOutOfRange);
         }
-        let stamp = self.stamp(now_ms, digits::number(&random));
+        let stamp = self.stamp(now_ms, number(&random));
         if stamp.random >= RANDOM_PARTS {
             return Err(PushError::Exhausted);
         }
@@ -120,3 +123,68 @@ impl Default for PushIds {
         PushIds::new()
     }
 }
+
+// ---- numbers in base 64
+
+const DIGITS: [u8; 64] = *b"-0123456789ABCDEFGHIJKLMNOPQRSTUVWXYZ_abcdefghijklmnopqrstuvwxyz";
+
+// Whether each of these is a digit's value.
+pub fn all_digits(digits: &[u8; 12]) -> bool
+    ensures { result ≡ list_all is_digit digits.now }
+{
+    digits.iter().all(|digit| *digit < 64)
+}
+
+// The number that twelve digits write.
+pub fn number(digits: &[u8; 12]) -> u128
+    requires { IsTrue (list_all is_digit digits.now) }
+    ensures number { result ≡ number digits.now }
+    ensures below { result < 64 ^ 12 }
+{
+    let mut number: u128 = 0;
+    for digit in digits {
+        number = 64 * number + u128::from(*digit);
+    }
+    number
+}
+
+// The byte of a digit of this value.
+fn digit_byte(value: u8) -> u8
+    requires { value < 64 }
+    ensures { result ≡ digit_byte value }
+{
+    DIGITS[usize::from(value)]
+}
+
+// Writes a number with as many digits as there is room for.
+pub fn write(room: &mut [u8], number: u128)
+    ensures { room.new ≡ text (length room.old) number }
+{
+    let mut rest = number;
+    let mut place = room.len();
+    while place > 0 {
+        place -= 1;
+        room[place] = digit_byte((rest % 64) as u8);
+        rest /= 64;
+    }
+}
+
+// ---- what holds of all push ids
+
+/// Whatever calls one `PushIds` gets, each id that it gives is above those before it, by bytes.
+pub fn ids_rise()
+    ensures { IdsRise }
+{}
+
+/// The number that digits write has just these digits, so a random part that is not counted up
+/// stands in its id as given.
+pub fn digits_stand()
+    ensures { DigitsStand }
+{}
+
+/// Ids, and what they are made of, that the prover computes.
+pub fn examples()
+    ensures written { IdsAsWritten }
+    ensures earlier { EarlierCountsUp }
+    ensures causes { FirstCauseCounts }
+{}

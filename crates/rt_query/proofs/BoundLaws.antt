@@ -10,7 +10,7 @@ use Rattle.rt_order.specs.KeyOrder.{key_cmp}
 use Rattle.rt_order.specs.Values.{value_cmp}
 use Rattle.rt_order.specs.Entries.{Entry}
 use Rattle.rt_order.specs.Cuts.{is_after, is_after_by, mark_value}
-use Rattle.rt_query.specs.declared.bound.Named.{Named}
+use Rattle.rt_query.specs.declared.draft.Named.{Named}
 use Rattle.rt_query.specs.Bounds.{Below, Above, cut_of, place_of}
 use Rattle.rt_query.specs.laws.Bounding.{compared, StartsAt, StartsAfter, EndsAt, EndsBefore, Equals, ComparesKeys}
 

@@ -20,11 +20,11 @@ use Rattle.rt_order.specs.declared.index.Index.{Index}
 use Rattle.rt_order.specs.Entries.{Entry, entry, entry_cmp}
 use Rattle.rt_order.specs.Cuts.{has}
 use Rattle.rt_order.specs.laws.EntryOrder.{entry_cmp_total, entry_cmp-IsAntisymmetric}
-use Rattle.rt_query.specs.declared.limit.Limit.{Limit}
-use Rattle.rt_query.specs.declared.limit.Limit.TheVariants.{First, Last}
+use Rattle.rt_query.specs.declared.query.Limit.{Limit}
+use Rattle.rt_query.specs.declared.query.Limit.TheVariants.{First, Last}
 use Rattle.rt_query.specs.Queries.{Query}
 use Rattle.rt_query.specs.Select.{sorted_by, limited}
-use Rattle.rt_query.specs.declared.child.Child.{Child}
+use Rattle.rt_query.specs.declared.row.Child.{Child}
 use Rattle.rt_query.specs.inside.Sorting.{by_entry, in_range, seen, child_cmp}
 
 -- ---- the definition: its entries rise, and each child is found at its entry

@@ -10,7 +10,7 @@ use Rattle.rt_order.specs.declared.cut.Place.{Place}
 use Rattle.rt_order.specs.declared.cut.Place.TheVariants.{Min, Before, After, Max}
 use Rattle.rt_order.specs.declared.cut.Cut.{Cut}
 use Rattle.rt_order.specs.declared.cut.Range.{Range}
-use Rattle.rt_query.specs.declared.bound.Named.{Named}
+use Rattle.rt_query.specs.declared.draft.Named.{Named}
 
 -- a cut lies just below what a bound names, or just above it
 pub data Side : Type 0 where

@@ -11,7 +11,7 @@ use Rattle.rt_query.specs.declared.error.QueryError.TheVariants.{OrderTwice, Sta
 use Rattle.rt_query.specs.declared.error.QueryError.TheVariants.{LimitTwice, LimitZero, NeedsText}
 use Rattle.rt_query.specs.declared.error.QueryError.TheVariants.{KeyNotAllowed, NoOrder}
 use Rattle.rt_query.specs.declared.error.QueryError.TheVariants.{BadBoundKey}
-use Rattle.rt_query.specs.declared.limit.Limit.{Limit}
+use Rattle.rt_query.specs.declared.query.Limit.{Limit}
 use Rattle.rt_query.specs.Bounds.{Bound, is_by_key, text_of, named, bounded}
 use Rattle.rt_query.specs.Drafts.{Draft}
 

@@ -4,7 +4,7 @@ use Rattle.std.specs.Option.{unwrap_or}
 use Rattle.rt_tree.specs.PathTree.{Path}
 use Rattle.rt_order.specs.declared.index.Index.{Index}
 use Rattle.rt_order.specs.declared.cut.Range.{Range}
-use Rattle.rt_query.specs.declared.limit.Limit.{Limit}
+use Rattle.rt_query.specs.declared.query.Limit.{Limit}
 use Rattle.rt_query.specs.Queries.{Query, IsQuery}
 
 -- a path; an order, if one is named; a range and a limit

@@ -4,8 +4,8 @@ use Rattle.rt_tree.specs.PathTree.{Path}
 use Rattle.rt_order.specs.declared.index.Index.{Index}
 use Rattle.rt_order.specs.declared.cut.Mark.{Mark}
 use Rattle.rt_order.specs.declared.cut.Range.{Range}
-use Rattle.rt_query.specs.declared.limit.Limit.{Limit}
-use Rattle.rt_query.specs.declared.limit.Limit.TheVariants.{First, Last}
+use Rattle.rt_query.specs.declared.query.Limit.{Limit}
+use Rattle.rt_query.specs.declared.query.Limit.TheVariants.{First, Last}
 
 -- a path, an order, a range and a limit
 pub record Query : Type 0 where

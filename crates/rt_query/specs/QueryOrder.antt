@@ -8,8 +8,8 @@ use Rattle.rt_order.specs.declared.index.Index.{Index}
 use Rattle.rt_order.specs.declared.index.Index.TheVariants.{Key, Child, Value}
 use Rattle.rt_order.specs.declared.cut.Range.{Range}
 use Rattle.rt_order.specs.CutOrder.{cut_cmp}
-use Rattle.rt_query.specs.declared.limit.Limit.{Limit}
-use Rattle.rt_query.specs.declared.limit.Limit.TheVariants.{First, Last}
+use Rattle.rt_query.specs.declared.query.Limit.{Limit}
+use Rattle.rt_query.specs.declared.query.Limit.TheVariants.{First, Last}
 use Rattle.rt_query.specs.Queries.{Query, most_rows}
 
 -- by keys, then by children, then by values

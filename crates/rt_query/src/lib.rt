@@ -12,17 +12,12 @@
 //! ```
 #![tactic(auto)]
 
-mod bound;
-mod child;
 mod draft;
 mod error;
 mod examples;
 mod laws;
-mod limit;
-mod order;
 mod query;
 mod row;
-mod shown;
 
 pub use draft::Draft;
 pub use error::QueryError;
@@ -32,8 +27,5 @@ pub use examples::{
 pub use laws::{
     bound_laws, equality_laws, order_laws, range_laws, row_laws, select_laws, supply_laws,
 };
-pub use limit::Limit;
-pub use order::{query_cmp, unlimited_cmp};
-pub use query::Query;
-pub use row::Row;
-pub use shown::Shown;
+pub use query::{Limit, Query, query_cmp, unlimited_cmp};
+pub use row::{Row, Shown};

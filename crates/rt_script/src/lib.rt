@@ -10,11 +10,9 @@
 //! Which bytes are which line is `rt_lines`', and what a step does is `rt_sync`'s.
 #![tactic(auto)]
 
-mod doing;
 pub mod examples;
+mod line;
 mod script;
-mod state;
 
-pub use doing::{do_bytes, do_line};
-pub use script::{run_logged, run_script};
-pub use state::State;
+pub use line::{do_bytes, do_line};
+pub use script::{State, run_logged, run_script};

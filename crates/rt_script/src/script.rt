@@ -1,19 +1,23 @@
 // A run of a script.
-ghost use Rattle.std.specs.Prelude.{◌≡◌, ◌+◌, ◌<◌, ◌≤◌, ◌^◌, ◌⊎◌, ◌∷◌, [], ℕ, List, Some, string_bytes};
-ghost use Rattle.std.specs.Prelude.{IfOk, IfErr, OnOk, OnErr, IsErrOf};
+ghost use Rattle.std.specs.Prelude.{◌≡◌, ◌+◌, ◌<◌, ◌≤◌, ◌^◌, ◌⊎◌, ◌∷◌, [], ℕ, List, Some, string_bytes, IfOk};
+ghost use Rattle.std.specs.Prelude.{IfErr, OnOk, OnErr, IsErrOf};
 ghost use Rattle.std.specs.Io.KnownBytes.{Appends, IsAtEnd};
 ghost use Rattle.rt_input.specs.Faults.{counts, NoneFailed, Tells, WriteTells};
 ghost use Rattle.rt_input.specs.Lines.{lines_of, most_input};
 ghost use Rattle.rt_input.specs.Streams.{AppendsPart};
 ghost use Rattle.rt_script.specs.Run.{after_line, after_lines, Ran, run_of, start};
 ghost use Rattle.rt_script.specs.inside.Pieces.{Begins, PrintsFirst, Runs, so_far};
+ghost use Rattle.rt_world.specs.World.{limits_from};
+ghost use Rattle.rt_script.specs.State.{new_state};
 
-use crate::doing::do_bytes;
-use crate::state::State;
+use crate::line::do_bytes;
 use rt_input::{ConsoleError, Drain, LineReader, Log, Silent, Source, write_printed};
 use rt_lines::{SCRIPT_LINES, say_line};
+use rt_push::PushIds;
+use rt_sync::Core;
 use rt_world::Limits;
 use std::alloc::{AllocError, Global};
+use std::marker::Model;
 
 // How much waits to be written before it is written, where the next line is there.
 const MUCH: usize = 65_536;
@@ -282,4 +286,40 @@ pub fn run_script<S: Source, D: Drain>(
         → AppendsPart (D.contents writer.old) (D.contents writer.new) (run_of text).printed) }
 {
     run_logged(alloc, reader, writer, &mut Silent)
+}
+
+// ---- what the lines of a script act on
+
+/// What the lines of a script act on: a core, and the source of its push ids.
+pub struct State {
+    pub(crate) core: Core,
+    pub(crate) ids: PushIds,
+}
+
+impl Drop for State {
+    fn drop(self) {
+        let State { core: _, ids: _ } = self;
+    }
+}
+
+impl Model for State {
+    ghost use Rattle.rt_sync.specs.Core.{world_in};
+    ghost use Rattle.rt_script.specs.State.{State as Seen};
+
+    ghost Value = { Seen };
+
+    ghost view = { λ s. record { world = world_in s.core; last_id = s.ids } };
+}
+
+impl State {
+    /// A new core with these limits, and a source that has given no id yet. A limit of 0 counts as
+    /// 1, and one above what a core takes as that.
+    pub fn new(alloc: Global, limits: Limits) -> State
+        ensures { result ≡ new_state (limits_from limits) }
+    {
+        State {
+            core: Core::new(alloc, limits),
+            ids: PushIds::new(),
+        }
+    }
 }

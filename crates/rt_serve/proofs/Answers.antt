@@ -8,20 +8,20 @@ use Rattle.websocket.specs.Content.{text}
 use Rattle.tungstenite.specs.Socket.{Socket, Writes}
 use Rattle.rt_wire.specs.declared.client.ClientMessage.{ClientMessage}
 use Rattle.rt_wire.specs.declared.error.WireError.{WireError}
-use Rattle.rt_peer.specs.declared.sent.Sent.{Sent}
+use Rattle.rt_peer.specs.declared.pushes.Sent.{Sent}
 use Rattle.rt_peer.specs.Peers.{Peer}
 use Rattle.rt_serve.specs.Answers.{IsAnswer, Tells, own, told, text_of, texts_of}
-use Rattle.rt_serve.specs.declared.answer.Answer.{Answer}
-use Rattle.rt_serve.specs.declared.answer.Answer.TheVariants.{Sends, PassedOver}
+use Rattle.rt_serve.specs.declared.serve.TextAnswer.{TextAnswer}
+use Rattle.rt_serve.specs.declared.serve.TextAnswer.TheVariants.{Sends, PassedOver}
 
 -- what an answer sends
-abbrev pub sent_in : Answer → List Sent
+abbrev pub sent_in : TextAnswer → List Sent
 sent_in (Sends sent) = sent.items
 sent_in (PassedOver e) = []
 
 -- the texts of what is kept are those that the connection is told
 pub sent_on : {S E : Type 0} (C : S → Option (List ℕ)) (s s' : Socket S) (o : Option Peer) (n : ℕ)
-    (r : Result ClientMessage WireError) (a : Answer) (given : List Sent) (x : Result Bool E)
+    (r : Result ClientMessage WireError) (a : TextAnswer) (given : List Sent) (x : Result Bool E)
     → given ≡ own n (sent_in a) → IfSome o (λ p. IsAnswer n p r a)
     → IfOk x (λ all. all ≡ true → Tells C s (texts_of given) s')
     → IfSome o (λ p. IfOk x (λ all. all ≡ true → Tells C s (told n p r) s'))

@@ -7,8 +7,8 @@ use Rattle.rt_peer.specs.Peers.{Peer}
 use Rattle.rt_peer.specs.Runs.{after_all}
 use Rattle.rt_serve.specs.Heard.{calls_of}
 use Rattle.rt_serve.specs.Sessions.{HasTaken, call_of}
-use Rattle.rt_serve.specs.declared.heard.Heard.{Heard}
-use Rattle.rt_serve.specs.declared.heard.Heard.TheVariants.{Text, Binary, Nothing, Ended}
+use Rattle.rt_serve.specs.declared.socket.Heard.{Heard}
+use Rattle.rt_serve.specs.declared.socket.Heard.TheVariants.{Text, Binary, Nothing, Ended}
 use Rattle.rt_serve.proofs.Sessions.{text_taken}
 
 -- what was heard is one text at most

@@ -9,11 +9,11 @@ use Rattle.rt_wire.specs.ServerData.{server_data}
 use Rattle.rt_wire.specs.declared.client.ClientMessage.{ClientMessage}
 use Rattle.rt_wire.specs.declared.error.WireError.{WireError}
 use Rattle.rt_wire.specs.declared.server.ServerMessage.{ServerMessage}
-use Rattle.rt_peer.specs.declared.sent.Sent.{Sent}
+use Rattle.rt_peer.specs.declared.pushes.Sent.{Sent}
 use Rattle.rt_peer.specs.Peers.{Peer}
 use Rattle.rt_peer.specs.Calls.{answered}
-use Rattle.rt_serve.specs.declared.answer.Answer.{Answer}
-use Rattle.rt_serve.specs.declared.answer.Answer.TheVariants.{Sends, PassedOver}
+use Rattle.rt_serve.specs.declared.serve.TextAnswer.{TextAnswer}
+use Rattle.rt_serve.specs.declared.serve.TextAnswer.TheVariants.{Sends, PassedOver}
 
 -- the text of a message of the server
 abbrev pub text_of : ServerMessage → List ℕ
@@ -33,7 +33,7 @@ told n p (Ok message) = texts_of (own n (answered p n message).1)
 told n p (Err e) = []
 
 -- what a text comes to: what the peer sends, or why it is passed over
-abbrev pub IsAnswer : ℕ → Peer → Result ClientMessage WireError → Answer → Type 0
+abbrev pub IsAnswer : ℕ → Peer → Result ClientMessage WireError → TextAnswer → Type 0
 IsAnswer n p (Ok message) (Sends sent) = sent.items ≡ (answered p n message).1
 IsAnswer n p (Ok message) (PassedOver e) = ⊥
 IsAnswer n p (Err why) (Sends sent) = ⊥

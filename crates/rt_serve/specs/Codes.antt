@@ -6,8 +6,8 @@ use Rattle.std.specs.declared.io.ErrorKind.{ErrorKind}
 use Rattle.std.specs.declared.io.ErrorKind.TheVariants.{QuotaExceeded}
 use Rattle.websocket.specs.declared.error.ProtocolError.{ProtocolError}
 use Rattle.websocket.specs.declared.error.ProtocolError.TheVariants.{ResetWithoutClosingHandshake}
-use Rattle.rt_socket.specs.declared.fault.SocketFault.{SocketFault}
-use Rattle.rt_socket.specs.declared.fault.SocketFault.TheVariants as fault
+use Rattle.rt_socket.specs.declared.socket.SocketFault.{SocketFault}
+use Rattle.rt_socket.specs.declared.socket.SocketFault.TheVariants as fault
 
 abbrev pub is_quota : ErrorKind → Bool
 is_quota QuotaExceeded = true

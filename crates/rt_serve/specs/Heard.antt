@@ -13,15 +13,15 @@ use Rattle.rt_wire.specs.Client.{client_message}
 use Rattle.rt_wire.specs.Crowds.{is_crowded}
 use Rattle.rt_peer.specs.Runs.{Call}
 use Rattle.rt_socket.specs.Hearing.{fault_of, is_blocked}
-use Rattle.rt_socket.specs.declared.fault.SocketFault.{SocketFault}
-use Rattle.rt_socket.specs.declared.fault.SocketFault.TheVariants.{OutOfMemory}
+use Rattle.rt_socket.specs.declared.socket.SocketFault.{SocketFault}
+use Rattle.rt_socket.specs.declared.socket.SocketFault.TheVariants.{OutOfMemory}
 use Rattle.rt_serve.specs.Codes.{fault_code}
 use Rattle.rt_serve.specs.declared.error.ServeError.{ServeError}
 use Rattle.rt_serve.specs.declared.error.ServeError.TheVariants.{NoMemory}
-use Rattle.rt_serve.specs.declared.heard.End.{End}
-use Rattle.rt_serve.specs.declared.heard.End.TheVariants.{Closed, Failed, TooMany, Crowded}
-use Rattle.rt_serve.specs.declared.heard.Heard.{Heard}
-use Rattle.rt_serve.specs.declared.heard.Heard.TheVariants.{Text, Binary, Nothing, Ended}
+use Rattle.rt_serve.specs.declared.socket.ServeEnd.{ServeEnd}
+use Rattle.rt_serve.specs.declared.socket.ServeEnd.TheVariants.{Closed, Failed, TooMany, Crowded}
+use Rattle.rt_serve.specs.declared.socket.Heard.{Heard}
+use Rattle.rt_serve.specs.declared.socket.Heard.TheVariants.{Text, Binary, Nothing, Ended}
 use Rattle.rt_serve.specs.Sessions.{call_of}
 
 -- ---- what is heard
@@ -51,7 +51,7 @@ heard_of (Err e) = heard_fault (fault_of e)
 -- ---- why a connection ends
 
 -- why it has ended by itself, where it has
-abbrev pub end_of : Heard → Option End
+abbrev pub end_of : Heard → Option ServeEnd
 end_of (Text words) = None
 end_of Binary = None
 end_of Nothing = None
@@ -59,14 +59,14 @@ end_of (Ended end) = Some end
 
 -- why it ends, where it does: by itself, or with a text that has more commas and brackets than a
 -- message may have
-abbrev pub ended_by : Heard → Option End
+abbrev pub ended_by : Heard → Option ServeEnd
 ended_by (Text words) = if is_crowded words then Some Crowded else None
 ended_by Binary = None
 ended_by Nothing = None
 ended_by (Ended end) = Some end
 
 -- the code that the client is told, where it is told why (RFC 6455, section 7.4.1)
-abbrev pub close_code_of : End → Option ℕ
+abbrev pub close_code_of : ServeEnd → Option ℕ
 close_code_of (Closed code) = None
 close_code_of (Failed why) = fault_code why
 close_code_of TooMany = Some 1008

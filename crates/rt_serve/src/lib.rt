@@ -11,14 +11,9 @@
 //! sees the peer alone: what any texts leave of it (`specs/Sessions.antt`).
 #![tactic(auto)]
 
-mod answer;
 mod error;
-mod heard;
-mod laws;
 mod serve;
 mod socket;
-mod telling;
 
 pub use error::ServeError;
-pub use laws::session_law;
-pub use serve::{MAX_MESSAGES, serve_logged, serve_stream};
+pub use serve::{MAX_MESSAGES, serve_logged, serve_stream, session_law};

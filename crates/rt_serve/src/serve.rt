@@ -6,20 +6,20 @@ ghost use Rattle.rt_peer.specs.Peers.{least_free};
 ghost use Rattle.rt_peer.specs.Calls.{connected, fault};
 ghost use Rattle.rt_peer.specs.Runs.{after_all};
 ghost use Rattle.rt_input.specs.Counted.{known_output};
-ghost use Rattle.rt_serve.specs.Answers.{Tells, told};
+ghost use Rattle.rt_serve.specs.Answers.{Tells, told, IsAnswer, own};
 ghost use Rattle.rt_serve.specs.Heard.{calls_of, ended_by, is_over};
 ghost use Rattle.rt_serve.specs.Sessions.{call_of, HasServed, HasTaken, ServedIf};
 ghost use Rattle.rt_serve.specs.Handshakes.{is_done};
+ghost use Rattle.rt_serve.specs.laws.Sessions.{SessionsLeaveConnections};
 
-use crate::answer::{Answer, keep_own, take_text};
 use crate::error::ServeError;
-use crate::heard::{End, Heard};
-use crate::socket::{Handshake, Socket, close, hear, send_all, shake_hands};
-use crate::telling;
+use crate::socket::{Handshake, Heard, ServeEnd, Socket, close, hear, send_all, shake_hands};
 use rt_input::{Log, MAX_MESSAGE_BYTES, Silent};
-use rt_peer::{Peer, PeerError};
-use rt_wire::is_crowded;
-use std::alloc::Global;
+use rt_peer::{Peer, PeerError, Sent};
+use rt_socket::{SocketFault, or_unknown};
+use rt_wire::{ClientMessage, MAX_MARKS, WireError, is_crowded};
+use std::alloc::{AllocError, Global};
+use std::fmt;
 use std::io::{Read, Write};
 
 /// After how many messages of any kind, pings and pongs among them, a connection is ended.
@@ -45,12 +45,12 @@ fn take<S: Read + Write + Drop, L: Log>(
     ensures memory { IfErr result (λ e. e ≡ ServeError.NoMemory) }
 {
     match take_text(alloc, peer, connection, words)? {
-        Answer::Sends(mut sent) => {
+        TextAnswer::Sends(mut sent) => {
             keep_own(&mut sent, connection);
             send_all(alloc, socket, &sent)
         }
-        Answer::PassedOver(why) => {
-            telling::text_passed_over(alloc, log, connection, why);
+        TextAnswer::PassedOver(why) => {
+            text_passed_over(alloc, log, connection, why);
             Ok(true)
         }
     }
@@ -65,7 +65,7 @@ fn take_heard<S: Read + Write + Drop, L: Log>(
     connection: u64,
     heard: &Heard,
     log: &mut L,
-) -> Result<Option<End>, ServeError>
+) -> Result<Option<ServeEnd>, ServeError>
     requires { fault peer.old connection ≡ None }
     ensures taken { IfSome peer.old (λ p. OnOk result (peer.new
         ≡ Some (after_all p (calls_of connection heard.now)))) }
@@ -78,15 +78,15 @@ fn take_heard<S: Read + Write + Drop, L: Log>(
     match heard {
         Heard::Text(words) => {
             if is_crowded(words.as_str()) {
-                return Ok(Some(End::Crowded));
+                return Ok(Some(ServeEnd::Crowded));
             }
             if !take(alloc, peer, socket, connection, words.as_str(), log)? {
-                telling::not_sent(alloc, log, connection);
+                not_sent(alloc, log, connection);
             }
             Ok(None)
         }
         Heard::Binary => {
-            telling::binary_passed_over(alloc, log, connection);
+            binary_passed_over(alloc, log, connection);
             Ok(None)
         }
         Heard::Nothing => Ok(None),
@@ -101,13 +101,13 @@ fn take_next<S: Read + Write + Drop, L: Log>(
     socket: &mut Socket<S>,
     connection: u64,
     log: &mut L,
-) -> Result<Option<End>, ServeError>
+) -> Result<Option<ServeEnd>, ServeError>
     requires { fault peer.old connection ≡ None }
     ensures taken { IfSome peer.old (λ p. OnOk result (HasTaken 1 connection p peer.new)) }
     ensures failed { IfSome peer.old (λ p.
         OnErr result ((peer.new ≡ None) ⊎ HasTaken 1 connection p peer.new)) }
     ensures over { IfOk result (λ end. IfSome end (λ e.
-        (e ≡ End.Crowded) ⊎ (is_over socket.new ≡ true))) }
+        (e ≡ ServeEnd.Crowded) ⊎ (is_over socket.new ≡ true))) }
     ensures memory { IfErr result (λ e. e ≡ ServeError.NoMemory) }
 {
     let heard = hear(socket)?;
@@ -122,13 +122,13 @@ fn take_all<S: Read + Write + Drop, L: Log>(
     socket: &mut Socket<S>,
     connection: u64,
     log: &mut L,
-) -> Result<End, ServeError>
+) -> Result<ServeEnd, ServeError>
     requires { fault peer.old connection ≡ None }
     ensures taken { IfSome peer.old (λ p. OnOk result (HasTaken MAX_MESSAGES connection p peer.new)) }
     ensures failed { IfSome peer.old (λ p.
         OnErr result ((peer.new ≡ None) ⊎ HasTaken MAX_MESSAGES connection p peer.new)) }
     ensures over { IfOk result (λ end.
-        (end ≡ End.TooMany) ⊎ (end ≡ End.Crowded) ⊎ (is_over socket.new ≡ true)) }
+        (end ≡ ServeEnd.TooMany) ⊎ (end ≡ ServeEnd.Crowded) ⊎ (is_over socket.new ≡ true)) }
     ensures memory { IfErr result (λ e. e ≡ ServeError.NoMemory) }
 {
     for _ in 0..MAX_MESSAGES {
@@ -136,7 +136,7 @@ fn take_all<S: Read + Write + Drop, L: Log>(
             return Ok(end);
         }
     }
-    Ok(End::TooMany)
+    Ok(ServeEnd::TooMany)
 }
 
 // Begins a connection of the peer.
@@ -170,7 +170,7 @@ fn take_to_end<S: Read + Write + Drop, L: Log>(
 {
     let end = take_all(alloc, peer, socket, connection, log)?;
     close(socket, end.close_code());
-    telling::ended(alloc, log, connection, &end);
+    ended(alloc, log, connection, &end);
     Ok(())
 }
 
@@ -187,7 +187,7 @@ fn serve_socket<S: Read + Write + Drop, L: Log>(
     ensures memory { IfErr result (λ e. IfSome peer.old (λ _. e ≡ ServeError.NoMemory)) }
 {
     let connection = connect(peer)?;
-    telling::begun(alloc, log, connection);
+    begun(alloc, log, connection);
     let taken = take_to_end(alloc, peer, socket, connection, log);
     // What the end of the connection changes is told to others, and none is served beside it.
     match peer.disconnect(connection) {
@@ -218,7 +218,7 @@ fn serve_handshake<S: Read + Write + Drop, L: Log>(
             Ok(true)
         }
         Handshake::Failed(why) => {
-            telling::no_handshake(alloc, log, why);
+            no_handshake(alloc, log, why);
             Ok(false)
         }
     }
@@ -280,3 +280,149 @@ pub fn serve_stream<S: Read + Write + Drop>(
     serve_logged(alloc, peer, stream, &mut Silent)?;
     Ok(())
 }
+
+// ---- what a text of a connection comes to
+
+// What a text comes to: what the peer then sends, or why it is passed over.
+#[derive(Drop)]
+pub(crate) enum TextAnswer {
+    Sends(Vec<Sent>),
+    PassedOver(WireError),
+}
+
+// Takes a text of the connection. One that is no message of a client is passed over.
+pub(crate) fn take_text(
+    alloc: Global,
+    peer: &mut Peer,
+    connection: u64,
+    words: &str,
+) -> Result<TextAnswer, ServeError>
+    requires { fault peer.old connection ≡ None }
+    ensures taken { IfSome peer.old (λ p. OnOk result (peer.new
+        ≡ Some (after_all p (call_of connection (client_message words.now))))) }
+    ensures answered { IfSome peer.old (λ p. IfOk result (λ answer.
+        IsAnswer connection p (client_message words.now) answer)) }
+    ensures failed { IfSome peer.old (λ p.
+        OnErr result ((peer.new ≡ None) ⊎ (peer.new ≡ peer.old))) }
+    ensures memory { IfErr result (λ e. e ≡ ServeError.NoMemory) }
+{
+    match ClientMessage::read(alloc, words) {
+        Ok(message) => match peer.message(connection, message) {
+            Ok(sent) => Ok(TextAnswer::Sends(sent)),
+            Err(_) => Err(ServeError::NoMemory),
+        },
+        Err(WireError::NoMemory) => Err(ServeError::NoMemory),
+        Err(
+            why @ (WireError::NotJson
+            | WireError::UnknownKind
+            | WireError::BadField
+            | WireError::BadTree),
+        ) => Ok(TextAnswer::PassedOver(why)),
+    }
+}
+
+// Keeps what goes to the connection, in order.
+pub(crate) fn keep_own(sent: &mut Vec<Sent>, connection: u64)
+    ensures { sent.new.items ≡ own connection sent.old.items }
+{
+    sent.retain(|one| one.to == connection);
+}
+
+// ---- what is told of a connection beside what it is sent
+
+// Tells a line, if there was memory for it.
+fn tell<L: Log>(log: &mut L, line: Result<String, AllocError>) {
+    if let Ok(line) = line {
+        log.tell(&line);
+    }
+}
+
+pub(crate) fn no_handshake<L: Log>(alloc: Global, log: &mut L, why: SocketFault) {
+    if log.is_on() {
+        tell(log, format!(in alloc; "a stream is no WebSocket: {why}"));
+    }
+}
+
+pub(crate) fn begun<L: Log>(alloc: Global, log: &mut L, connection: u64) {
+    if log.is_on() {
+        tell(log, format!(in alloc; "connection {connection} begins"));
+    }
+}
+
+pub(crate) fn text_passed_over<L: Log>(
+    alloc: Global,
+    log: &mut L,
+    connection: u64,
+    why: WireError,
+) {
+    if log.is_on() {
+        let (code, name) = (why.code(), why.name());
+        let line = format!(in alloc;
+            "connection {connection}: a text is passed over: {code} {name}"
+        );
+        tell(log, line);
+    }
+}
+
+pub(crate) fn binary_passed_over<L: Log>(alloc: Global, log: &mut L, connection: u64) {
+    if log.is_on() {
+        let why = WireError::NotJson;
+        let (code, name) = (why.code(), why.name());
+        let line = format!(in alloc;
+            "connection {connection}: a binary message is passed over: {code} {name}"
+        );
+        tell(log, line);
+    }
+}
+
+pub(crate) fn not_sent<L: Log>(alloc: Global, log: &mut L, connection: u64) {
+    if log.is_on() {
+        let line = format!(in alloc; "connection {connection} can't be sent to any more");
+        tell(log, line);
+    }
+}
+
+pub(crate) fn ended<L: Log>(alloc: Global, log: &mut L, connection: u64, end: &ServeEnd) {
+    if log.is_on() {
+        tell(
+            log,
+            format!(in alloc; "connection {connection} ends: {end}"),
+        );
+    }
+}
+
+impl fmt::Display for ServeEnd {
+    ghost use Rattle.rt_serve.specs.Endings.{ended_text};
+
+    ghost output = { λ end. ended_text end };
+
+    fn fmt<W: fmt::Write>(&self, f: &mut fmt::Formatter<W>) -> fmt::Result {
+        match self {
+            ServeEnd::Closed(None) => f.write_str("the client closed it"),
+            ServeEnd::Closed(Some(code)) => {
+                write!(f, "the client closed it with {code}{}", or_unknown(*code))
+            }
+            ServeEnd::Failed(why) => match self.close_code() {
+                Some(code) => write!(f, "{why}; it is closed with {code}"),
+                None => write!(f, "{why}"),
+            },
+            ServeEnd::TooMany => write!(
+                f,
+                "{MAX_MESSAGES} messages have come; it is closed with 1008"
+            ),
+            ServeEnd::Crowded => write!(
+                f,
+                "a text has more than {MAX_MARKS} commas and brackets; it is closed with 1009"
+            ),
+        }
+    }
+}
+
+// ---- what serving leaves as it was
+
+/// A connection that is served leaves the connections of the peer as they were, where their numbers
+/// rise and a new one gets a free number; so it is after any calls on a new peer (`connections_law` of
+/// `rt_peer`).
+pub fn session_law()
+    ensures { SessionsLeaveConnections }
+{}

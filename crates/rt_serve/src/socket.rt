@@ -7,18 +7,18 @@ ghost use Rattle.tungstenite.specs.Socket.{Writes, content_of};
 ghost use Rattle.rt_input.specs.Counted.{known_output};
 ghost use Rattle.rt_serve.specs.Answers.{Tells, text_of, texts_of};
 ghost use Rattle.rt_serve.specs.Closing.{close_frame};
-ghost use Rattle.rt_serve.specs.Heard.{end_of, is_over};
+ghost use Rattle.rt_serve.specs.Heard.{end_of, is_over, close_code_of, heard_fault, heard_message, heard_of};
+ghost use Rattle.rt_serve.specs.Codes.{fault_code, protocol_code, stream_code};
 
 use crate::error::ServeError;
-use crate::heard::{Heard, heard_from};
 use rt_input::Counted;
 use rt_peer::Sent;
 use rt_socket::{Origins, SocketFault, fault_of};
 use rt_wire::ServerMessage;
 use std::alloc::{AllocError, Global};
-use std::io;
-use std::io::{ErrorKind, Read, Write};
-use tungstenite::{HandshakeError, Message, NoMask, WebSocket, WebSocketConfig};
+use std::io::{self, ErrorKind, Read, Write};
+use tungstenite::{Error, HandshakeError, Message, NoMask, Utf8Bytes, WebSocket, WebSocketConfig};
+use websocket::error::ProtocolError;
 
 // A server's WebSocket over a stream whose bytes are counted.
 pub(crate) type Socket<S> = WebSocket<Counted<S>, NoMask>;
@@ -191,5 +191,150 @@ pub(crate) fn close<S: Read + Write + Drop>(socket: &mut Socket<S>, code: Option
     }
     if let Some(code) = code {
         let _closed = write_close(socket.get_mut(), code);
+    }
+}
+
+// ---- what a read of the socket says
+
+// Why a connection ends.
+#[derive(Clone, Copy)]
+pub(crate) enum ServeEnd {
+    // The client closed it, with that code or with none.
+    Closed(Option<u16>),
+    // A read of the socket failed, or found its end.
+    Failed(SocketFault),
+    // There were as many messages as are taken.
+    TooMany,
+    // A text has more commas and brackets than a message may have.
+    Crowded,
+}
+
+// What a read of the socket says.
+pub(crate) enum Heard {
+    Text(Utf8Bytes),
+    Binary,
+    // A ping, which the socket answers by itself, or a pong.
+    Nothing,
+    Ended(ServeEnd),
+}
+
+impl Drop for Heard {
+    fn drop(self) {
+        match self {
+            Heard::Text(_) | Heard::Binary | Heard::Nothing | Heard::Ended(_) => {}
+        }
+    }
+}
+
+impl Heard {
+    // Why the connection has ended by itself, where it has.
+    pub(crate) fn end(&self) -> Option<ServeEnd>
+        ensures { result ≡ end_of self.now }
+    {
+        match self {
+            Heard::Ended(end) => Some(*end),
+            Heard::Text(_) | Heard::Binary | Heard::Nothing => None,
+        }
+    }
+
+    // Whether the stream has failed.
+    pub(crate) fn has_lost_stream(&self) -> bool {
+        matches!(self, Heard::Ended(ServeEnd::Failed(SocketFault::Io(_))))
+    }
+}
+
+// What a message says.
+fn heard_message(message: Message) -> Heard
+    ensures { result ≡ heard_message message }
+{
+    match message {
+        Message::Text(words) => Heard::Text(words),
+        Message::Binary(_) => Heard::Binary,
+        Message::Ping(_) | Message::Pong(_) => Heard::Nothing,
+        Message::Close(None) => Heard::Ended(ServeEnd::Closed(None)),
+        Message::Close(Some(frame)) => Heard::Ended(ServeEnd::Closed(Some(u16::from(frame.code)))),
+    }
+}
+
+// What a fault of a read says. A read that is given up says nothing.
+fn heard_fault(why: SocketFault) -> Result<Heard, ServeError>
+    ensures heard { result ≡ heard_fault why }
+    ensures memory { IfErr result (λ e. e ≡ ServeError.NoMemory) }
+{
+    match why {
+        SocketFault::OutOfMemory => Err(ServeError::NoMemory),
+        why if why.is_blocked() => Ok(Heard::Nothing),
+        why => Ok(Heard::Ended(ServeEnd::Failed(why))),
+    }
+}
+
+// What a message or an error of the socket says.
+pub(crate) fn heard_from(read: Result<Message, Error>) -> Result<Heard, ServeError>
+    ensures heard { result ≡ heard_of read }
+    ensures memory { IfErr result (λ e. e ≡ ServeError.NoMemory) }
+{
+    match read {
+        Ok(message) => Ok(heard_message(message)),
+        Err(error) => heard_fault(fault_of(error)),
+    }
+}
+
+// The code of a breach of the protocol; a reset is none.
+fn protocol_code(why: ProtocolError) -> Option<u16>
+    ensures { result ≡ protocol_code why }
+{
+    match why {
+        ProtocolError::ResetWithoutClosingHandshake => None,
+        _ => Some(1002),
+    }
+}
+
+// The code of a stream that failed: more bytes came than are read for a message.
+fn stream_code(why: &io::Error) -> Option<u16>
+    ensures { result ≡ stream_code why.now }
+{
+    if why.kind() == ErrorKind::QuotaExceeded {
+        Some(1009)
+    } else {
+        None
+    }
+}
+
+// The code that RFC 6455 (section 7.4.1) has for the client, where it is told why: it broke the protocol, a
+// text is no UTF-8, or a message has too many bytes.
+fn fault_code(why: &SocketFault) -> Option<u16>
+    ensures { result ≡ fault_code why.now }
+{
+    match why {
+        SocketFault::Protocol(why) => protocol_code(*why),
+        SocketFault::Io(why) => stream_code(why),
+        SocketFault::Utf8 => Some(1007),
+        SocketFault::Capacity(_) => Some(1009),
+        SocketFault::ConnectionClosed
+        | SocketFault::AlreadyClosed
+        | SocketFault::WriteBufferFull
+        | SocketFault::AttackAttempt
+        | SocketFault::Handshake(_)
+        | SocketFault::HandshakeIncomplete
+        | SocketFault::JunkAfterRequest
+        | SocketFault::CustomResponseSuccessful
+        | SocketFault::Url
+        | SocketFault::Status(_)
+        | SocketFault::OutOfMemory => None,
+    }
+}
+
+impl ServeEnd {
+    // The code for the client, where it is told why: a failure's own, or there were too many messages, or
+    // too many values in one.
+    pub(crate) fn close_code(&self) -> Option<u16>
+        ensures { result ≡ close_code_of self.now }
+    {
+        match self {
+            ServeEnd::Closed(_) => None,
+            ServeEnd::Failed(why) => fault_code(why),
+            ServeEnd::TooMany => Some(1008),
+            ServeEnd::Crowded => Some(1009),
+        }
     }
 }

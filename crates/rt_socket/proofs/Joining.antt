@@ -12,8 +12,8 @@ use Rattle.rt_wire.specs.declared.server.ServerMessage.{ServerMessage}
 use Rattle.rt_socket.specs.Reading.{IsPause, Reads, ReadsMost, read_all, read_of, texts_of}
 use Rattle.rt_socket.specs.Wires.{Gives, Takes, given_by, said_by}
 use Rattle.rt_socket.specs.inside.Rounds.{PausesBy, given_count}
-use Rattle.rt_socket.specs.declared.batch.Pause.{Pause}
-use Rattle.rt_socket.specs.declared.batch.Pause.TheVariants as pause
+use Rattle.rt_socket.specs.declared.wire.Pause.{Pause}
+use Rattle.rt_socket.specs.declared.wire.Pause.TheVariants as pause
 use Rattle.rt_socket.specs.declared.wire.Said.{Said}
 use Rattle.rt_socket.specs.declared.wire.Heard.{Heard}
 use Rattle.rt_socket.specs.declared.wire.Heard.TheVariants.{Text, Binary, Sign, Nothing, Ended}

@@ -10,8 +10,8 @@ use Rattle.tungstenite.specs.Socket.{Socket, Writes}
 use Rattle.tungstenite.specs.declared.error.Error.{Error}
 use Rattle.websocket.specs.declared.error.Error.{Error as FrameError}
 use Rattle.rt_input.specs.Counted.{CountedStream}
-use Rattle.rt_socket.specs.declared.fault.SocketFault.{SocketFault}
-use Rattle.rt_socket.specs.declared.fault.SocketFault.TheVariants as fault
+use Rattle.rt_socket.specs.declared.socket.SocketFault.{SocketFault}
+use Rattle.rt_socket.specs.declared.socket.SocketFault.TheVariants as fault
 use Rattle.rt_socket.specs.declared.lost.Lost.{Lost}
 use Rattle.rt_socket.specs.declared.lost.Lost.TheVariants.{Failed, Silent}
 use Rattle.rt_socket.specs.declared.patience.TheConstants.{ASKING_TICK, SILENT_TICKS}

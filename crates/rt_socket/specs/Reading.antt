@@ -9,8 +9,8 @@ use Rattle.rt_wire.specs.declared.error.WireError.{WireError}
 use Rattle.rt_wire.specs.declared.error.WireError.TheVariants.{NotJson}
 use Rattle.rt_wire.specs.declared.server.ServerMessage.{ServerMessage}
 use Rattle.rt_socket.specs.Wires.{Gives}
-use Rattle.rt_socket.specs.declared.batch.Pause.{Pause}
-use Rattle.rt_socket.specs.declared.batch.Pause.TheVariants as pause
+use Rattle.rt_socket.specs.declared.wire.Pause.{Pause}
+use Rattle.rt_socket.specs.declared.wire.Pause.TheVariants as pause
 use Rattle.rt_socket.specs.declared.wire.Heard.{Heard}
 use Rattle.rt_socket.specs.declared.wire.Heard.TheVariants.{Text, Binary, Sign, Nothing, Ended}
 use Rattle.rt_socket.specs.declared.wire.Said.{Said}

@@ -10,10 +10,9 @@ ghost use Rattle.rt_socket.specs.declared.lost.Lost.{Lost};
 ghost use Rattle.rt_socket.specs.declared.patience.TheConstants.{ASKING_TICK};
 ghost use Rattle.rt_socket.specs.declared.wire.Heard.{Heard};
 
-use crate::fault::SocketFault;
 use crate::lost::Lost;
 use crate::patience::{ASKING_TICK, SILENT_TICKS};
-use crate::socket::{Socket, fault_in};
+use crate::socket::{Socket, SocketFault, fault_in};
 use crate::wire::{Heard, Wire};
 use rt_input::Counted;
 use std::alloc::AllocError;

@@ -2,8 +2,8 @@
 ghost use Rattle.std.specs.Prelude.{◌≡◌};
 ghost use Rattle.rt_socket.specs.Hearing.{closed_by, or_unknown, unopened};
 
-use crate::fault::{SocketFault, fault_of};
 use crate::patience::{HANDSHAKE_MS, SILENCE_MS};
+use crate::socket::{SocketFault, fault_of};
 use std::alloc::AllocError;
 use std::{fmt, io};
 use thiserror::Error;

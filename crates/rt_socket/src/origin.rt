@@ -9,6 +9,7 @@ ghost use Rattle.http.specs.Response.{body_of, head_of};
 ghost use Rattle.rt_socket.specs.Handshakes.{IsAnswer, IsAnswered, IsAnsweredBy, origins_of, page_refusal};
 ghost use Rattle.rt_socket.specs.Handshakes.{refusal_of, shown};
 ghost use Rattle.rt_socket.specs.Origins.{allows, is_local, is_page_of, is_port, may_connect, visible_in};
+ghost use Rattle.rt_socket.specs.laws.Examples.{AllowedOnes, LocalOnes, NotAllowedOnes, OtherOnes};
 
 use http::{HeaderValue, Request, Response, StatusCode};
 use std::alloc::{AllocError, Global};
@@ -224,3 +225,13 @@ impl Callback for Origins {
         }
     }
 }
+
+// ---- worked rows
+
+/// Pages of this machine may connect, at any port, and those that are allowed; no others.
+pub fn origin_examples()
+    ensures local { LocalOnes }
+    ensures others { OtherOnes }
+    ensures allowed { AllowedOnes }
+    ensures not_allowed { NotAllowedOnes }
+{}

@@ -1,24 +1,30 @@
 // A WebSocket as a wire.
-ghost use Rattle.std.specs.Prelude.{◌≡◌, [], None, Some, IfOk, IfSome};
+ghost use Rattle.std.specs.Prelude.{◌≡◌, [], None, Some, IfOk, IfSome, drop, length, min, IsErrAnd};
+ghost use Rattle.std.specs.Io.{ReadsAtMost, WritesAtMost};
+ghost use Rattle.std.specs.Io.KnownBytes.{Keeps, ReadConsumes, WriteAppends};
+ghost use Rattle.std.specs.IoError.{error_kind};
 ghost use Rattle.tungstenite.specs.Connection.{close_step, write_step};
 ghost use Rattle.tungstenite.specs.Content.{ping, text as text_content};
 ghost use Rattle.tungstenite.specs.Socket.{Writes, Flushed as Flushes, close_of, content_of};
-ghost use Rattle.rt_socket.specs.Hearing.{fault_in, flushed_by, heard_fault, heard_from, heard_of};
-ghost use Rattle.rt_socket.specs.Hearing.{taken_by};
-ghost use Rattle.rt_socket.specs.Sockets.{GoesBehind, Hears, IsSent, limits_for};
+ghost use Rattle.rt_socket.specs.Hearing.{fault_in, flushed_by, heard_fault, heard_from, heard_of, taken_by};
+ghost use Rattle.rt_socket.specs.Hearing.{fault_of, is_blocked};
+ghost use Rattle.rt_socket.specs.Sockets.{GoesBehind, Hears, IsSent, limits_for, Spends};
 ghost use Rattle.rt_socket.specs.Wires.{said_by};
 ghost use Rattle.rt_socket.specs.declared.wire.Said.TheVariants.{Nothing};
 
-use crate::fault::{SocketFault, fault_of};
 use crate::lost::{Lost, closed_by};
-use crate::paced::Paced;
 use crate::wire::{Flushed, Heard, Said, Wire};
+use http::StatusCode;
 use std::alloc::{AllocError, Global};
-use std::io::{Read, Write};
+use std::fmt;
+use std::io::{self, ErrorKind, Read, Write};
 use std::marker::Model;
+use thiserror::Error;
 use tungstenite::{
     Bytes, CloseFrame, Error as SocketError, MaskKeys, Message, WebSocket, WebSocketConfig,
 };
+use websocket::error::{CapacityError, ProtocolError};
+use websocket::handshake::HandshakeError;
 
 // How many bytes a read of the stream takes.
 const READ_BYTES: usize = 16_384;
@@ -232,4 +238,197 @@ impl<S: Read + Write + Drop, K: MaskKeys + Drop> Wire for Socket<S, K> {
     {
         flushed_by(self.socket.flush())
     }
+}
+
+// ---- a stream of which only so much is read in one go
+
+/// A stream of which at most so many bytes are read in one go. A read beyond them fails as one of a stream
+/// that would have to wait.
+#[derive(Drop)]
+pub struct Paced<S> {
+    stream: S,
+    left: usize,
+}
+
+impl<S> Model for Paced<S> {
+    ghost use Rattle.rt_socket.specs.Sockets.{PacedStream};
+
+    ghost Value = { PacedStream S };
+
+    ghost view = { λ p. record { stream = p.stream; left = p.left } };
+}
+
+impl<S> Paced<S> {
+    /// Of which nothing may be read yet.
+    pub fn new(stream: S) -> Paced<S>
+        ensures { result ≡ record { stream = stream; left = 0 } }
+    {
+        Paced { stream, left: 0 }
+    }
+
+    /// So many bytes may be read from now on.
+    pub fn allow(&mut self, most: usize)
+        ensures { self.new ≡ record (self.old) { left = most } }
+    {
+        self.left = most;
+    }
+
+    /// How many bytes may still be read.
+    pub fn left(&self) -> usize
+        ensures { result ≡ self.now.left }
+    {
+        self.left
+    }
+}
+
+impl<S: Read> Read for Paced<S> {
+    ghost remaining = { λ p. S.remaining p.stream };
+
+    /// A read of the stream, of no more bytes than are left. Where none is left, or none is asked for, it
+    /// fails as a read that would have to wait, and reads nothing.
+    fn read(&mut self, into: &mut [u8]) -> io::Result<usize>
+        // What the stream gives, as at each reader.
+        ensures bound { ReadsAtMost result into.new }
+        ensures bytes { ReadConsumes (S.remaining self.old.stream) (S.remaining self.new.stream)
+            result into.new }
+
+        // What was left is what was given, and what is left now.
+        ensures left { Spends result self.old.left self.new.left }
+        ensures beyond { drop self.old.left into.new ≡ drop self.old.left into.old }
+        ensures spent { min (length into.old) self.old.left ≡ 0
+            → IsErrAnd result (λ e. error_kind e ≡ ErrorKind.WouldBlock) × (self.new ≡ self.old) }
+    {
+        let most = into.len().min(self.left);
+        if most == 0 {
+            return Err(io::Error::from(ErrorKind::WouldBlock));
+        }
+        let count = self.stream.read(&mut into[..most])?;
+        self.left = self.left.saturating_sub(count);
+        Ok(count)
+    }
+}
+
+impl<S: Write> Write for Paced<S> {
+    ghost contents = { λ p. S.contents p.stream };
+
+    /// A write to the stream.
+    fn write(&mut self, bytes: &[u8]) -> io::Result<usize>
+        ensures bound { WritesAtMost result bytes.now }
+        ensures bytes { WriteAppends (S.contents self.old.stream) (S.contents self.new.stream) result
+            bytes.now }
+        ensures left { self.new.left ≡ self.old.left }
+    {
+        self.stream.write(bytes)
+    }
+
+    fn flush(&mut self) -> io::Result<()>
+        ensures bytes { Keeps (S.contents self.old.stream) (S.contents self.new.stream) }
+        ensures left { self.new.left ≡ self.old.left }
+    {
+        self.stream.flush()
+    }
+}
+
+// ---- why a WebSocket failed, as a small value
+
+/// Why a WebSocket failed: what `tungstenite` says, and of a response its status alone.
+#[derive(Clone, Copy, Error)]
+pub enum SocketFault {
+    /// The closing handshake is done.
+    #[error("Connection closed normally")]
+    ConnectionClosed,
+    /// It was used after that, or after it had failed.
+    #[error("Trying to work with closed connection")]
+    AlreadyClosed,
+    /// The stream failed, or would have to wait.
+    #[error("IO error: {0}")]
+    Io(io::Error),
+    /// A frame or a message has more bytes than may come.
+    #[error("Space limit exceeded: {0}")]
+    Capacity(CapacityError),
+    /// RFC 6455 was broken.
+    #[error("WebSocket protocol error: {0}")]
+    Protocol(ProtocolError),
+    /// More waits to be sent than may wait.
+    #[error("Write buffer is full")]
+    WriteBufferFull,
+    /// A text or the reason of a close is no UTF-8.
+    #[error("UTF-8 encoding error")]
+    Utf8,
+    /// A handshake came in too many small parts.
+    #[error("Attack attempt detected")]
+    AttackAttempt,
+    /// A head is no handshake.
+    #[error("Handshake error: {0}")]
+    Handshake(HandshakeError),
+    /// The stream ended within a handshake.
+    #[error("Handshake not finished")]
+    HandshakeIncomplete,
+    /// A client's request was followed by more at once.
+    #[error("Junk after client request")]
+    JunkAfterRequest,
+    /// A refusal of a request had the status of a success.
+    #[error("Custom response must not be successful")]
+    CustomResponseSuccessful,
+    /// What was to be connected to is no `ws` or `wss` URI.
+    #[error("URL error")]
+    Url,
+    /// The answer to a handshake has another status than it should.
+    #[error("HTTP error: {0}")]
+    Status(StatusCode),
+    /// A growth was refused.
+    #[error("Out of memory")]
+    OutOfMemory,
+}
+
+impl fmt::Debug for SocketFault {
+    // In its words.
+    fn fmt<W: fmt::Write>(&self, f: &mut fmt::Formatter<W>) -> fmt::Result {
+        fmt::Display::fmt(self, f)
+    }
+}
+
+impl SocketFault {
+    /// Whether the stream would have to wait.
+    pub fn is_blocked(&self) -> bool
+        ensures { result ≡ is_blocked self.now }
+    {
+        match self {
+            SocketFault::Io(why) => matches!(why.kind(), ErrorKind::WouldBlock),
+            _ => false,
+        }
+    }
+}
+
+// What an error of a WebSocket says, which stays.
+fn seen(error: &SocketError) -> SocketFault
+    ensures { result ≡ fault_of error.now }
+{
+    match error {
+        SocketError::ConnectionClosed => SocketFault::ConnectionClosed,
+        SocketError::AlreadyClosed => SocketFault::AlreadyClosed,
+        SocketError::Io(why) => SocketFault::Io(*why),
+        SocketError::Capacity(why) => SocketFault::Capacity(*why),
+        SocketError::Protocol(why) => SocketFault::Protocol(*why),
+        SocketError::WriteBufferFull => SocketFault::WriteBufferFull,
+        SocketError::Utf8 => SocketFault::Utf8,
+        SocketError::AttackAttempt => SocketFault::AttackAttempt,
+        SocketError::Handshake(why) => SocketFault::Handshake(*why),
+        SocketError::HandshakeIncomplete => SocketFault::HandshakeIncomplete,
+        SocketError::JunkAfterRequest => SocketFault::JunkAfterRequest,
+        SocketError::CustomResponseSuccessful => SocketFault::CustomResponseSuccessful,
+        SocketError::Url => SocketFault::Url,
+        SocketError::Http(response) => SocketFault::Status(response.status()),
+        SocketError::Refused(response) => SocketFault::Status(response.status()),
+        SocketError::OutOfMemory => SocketFault::OutOfMemory,
+    }
+}
+
+/// What an error of a WebSocket says. The error ends here, and nothing else does.
+pub fn fault_of(error: SocketError) -> SocketFault
+    ensures { result ≡ fault_of error }
+{
+    let fault = seen(&error);
+    drop(error);
+    fault
 }

@@ -24,7 +24,7 @@ use Rattle.rt_store.specs.Rows.{Row, in_key_order}
 use Rattle.rt_nodes.specs.Forest.{bare, node, AllAfter}
 use Rattle.rt_store.specs.inside.Entries.{entries, Trees}
 use Rattle.rt_store.specs.inside.Growing.{seen}
-use Rattle.rt_store.specs.declared.grow.Child.{Child}
+use Rattle.rt_store.specs.declared.nodes.StoreChild.{StoreChild}
 use Rattle.rt_store.proofs.Orders.{tests_alike, find-child_of, sorted-in_key_order, find-in_key_order}
 
 -- each entry put in front of a row, one by one
@@ -87,13 +87,13 @@ falls j k h d =
     ] refl
 
 -- the order that the sort follows
-abbrev pub falls_before : Child → Child → Bool
+abbrev pub falls_before : StoreChild → StoreChild → Bool
 falls_before a b = is_lt (key_cmp (seen b).0 (seen a).0)
 
 pub falling_ranks : IsStrictWeakOrder falls_before
-falling_ranks = IsStrictWeakOrder-flip _ (ranks_by key_cmp_total (λ (c : Child). (seen c).0))
+falling_ranks = IsStrictWeakOrder-flip _ (ranks_by key_cmp_total (λ (c : StoreChild). (seen c).0))
 
-rises_onto : (a : Child) (xs : List Child) (es : Row) → AllPairs (λ b c. falls_before c b ≡ false) (a ∷ xs) → IsDistinct key_eq (keys_of (map seen (a ∷ xs)))
+rises_onto : (a : StoreChild) (xs : List StoreChild) (es : Row) → AllPairs (λ b c. falls_before c b ≡ false) (a ∷ xs) → IsDistinct key_eq (keys_of (map seen (a ∷ xs)))
     → T (is_sorted key_cmp (seen a ∷ es)) → T (is_sorted key_cmp (onto (map seen xs) (seen a ∷ es)))
 unfolding IsDistinct
 rises_onto a [] es up apart h = h
@@ -101,7 +101,7 @@ rises_onto a (b ∷ xs) es up apart h =
     rises_onto b xs (seen a ∷ es) (λ i j d below inside. up (suc i) (suc j) d (omega arith) (omega arith)) apart.1
     (rises_more (seen b) (seen a) es (falls (seen a).0 (seen b).0 (up zero (suc zero) a (omega arith) (omega arith)) apart.0.0) h)
 
-rises_back : (xs : List Child) → AllPairs (λ b c. falls_before c b ≡ false) xs → IsDistinct key_eq (keys_of (map seen xs)) → T (is_sorted key_cmp (reverse (map seen xs)))
+rises_back : (xs : List StoreChild) → AllPairs (λ b c. falls_before c b ≡ false) xs → IsDistinct key_eq (keys_of (map seen xs)) → T (is_sorted key_cmp (reverse (map seen xs)))
 rises_back [] up apart = tt
 rises_back (a ∷ xs) up apart = rises_onto a xs [] up apart tt
 
@@ -123,7 +123,7 @@ child_of-permutation es fs k same apart =
     there xs ys p d t e = lookup-from_Contains (eq_by_cmp_equiv nat_list_cmp_total) k t ys d (Contains-permutation xs ys (k, t) p (Contains-from_lookup key_eq-is k t xs e))
 
 -- children in falling order, reversed, are the children in order
-pub fallen : (es : Row) (xs ys : List Child) (left : Row) → IsStrictlySortedBy bytes_cmp (keys_of es) → es ≡ map seen xs ++ left → left ≡ [] → IsPermutation xs ys → IsSortedBy falls_before ys
+pub fallen : (es : Row) (xs ys : List StoreChild) (left : Row) → IsStrictlySortedBy bytes_cmp (keys_of es) → es ≡ map seen xs ++ left → left ≡ [] → IsPermutation xs ys → IsSortedBy falls_before ys
     → reverse (map seen ys) ≡ in_key_order es
 fallen es xs ys left keys is end moved sorted =
     same_entries key_cmp key_cmp_total key_cmp-IsAntisymmetric (reverse (map seen ys)) (in_key_order es)

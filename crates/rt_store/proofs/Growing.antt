@@ -25,7 +25,7 @@ use Rattle.rt_store.specs.Rows.{Row, in_key_order}
 use Rattle.rt_store.specs.inside.Growing.{seen}
 use Rattle.rt_store.specs.inside.Entries.{entries, tree_with, IsFull, Filled, Nodes, Trees}
 use Rattle.rt_store.specs.inside.Changes.{IsGrown}
-use Rattle.rt_store.specs.declared.grow.Child.{Child}
+use Rattle.rt_store.specs.declared.nodes.StoreChild.{StoreChild}
 use Rattle.rt_store.proofs.Orders.{find-child_of, sorted-in_key_order, find-in_key_order}
 use Rattle.rt_store.proofs.Paths.{differs}
 use Rattle.rt_store.proofs.Falling.{onto, sorted_so_far, after_from_sorted}
@@ -111,7 +111,7 @@ found_onto (c ∷ cs) es k t h is =
     ] refl)
 
 -- x is the next child
-module _ (s0 s : Nodes) (o parent : Option ℕ) (es : Row) (xs : List Child) (i : ℕ) (x : Child) (made : IsGrown s0 s o parent)
+module _ (s0 s : Nodes) (o parent : Option ℕ) (es : Row) (xs : List StoreChild) (i : ℕ) (x : StoreChild) (made : IsGrown s0 s o parent)
     (left : onto (map seen (drop i xs)) (entries (row_at s o)) ≡ in_key_order es) (inside : i < length xs) (is : x ≡ get_or xs i x) where
   h : Grown s0 s o parent
   h = made.grown

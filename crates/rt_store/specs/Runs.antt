@@ -3,8 +3,8 @@ use Rattle.std.specs.Prelude.{◌+◌, nat_lt, if◌then◌else◌, List, length
 use Rattle.std.specs.List.{fold}
 use Rattle.rt_tree.specs.PathTree.{PathTree, null, put, levels}
 use Rattle.rt_tree.specs.declared.limits.TheConstants.{MAX_LEVELS}
-use Rattle.rt_store.specs.declared.run.Change.{Change}
-use Rattle.rt_store.specs.declared.run.Change.TheVariants.{Set, Clear}
+use Rattle.rt_store.specs.declared.store.Change.{Change}
+use Rattle.rt_store.specs.declared.store.Change.TheVariants.{Set, Clear}
 
 -- the tree after a change; one that is too deep leaves it as it was
 abbrev pub after : PathTree → Change → PathTree

@@ -11,18 +11,10 @@
 //! (`specs/Stored.antt`).
 #![tactic(auto)]
 
-mod build;
 mod clear;
 mod error;
-mod grow;
-mod laws;
-mod node;
-mod put;
-mod run;
+mod nodes;
 mod store;
 
 pub use error::StoreError;
-pub use laws::walk_law;
-pub use node::Node;
-pub use run::Change;
-pub use store::Store;
+pub use store::{Change, Node, Store, walk_law};

@@ -1,18 +1,17 @@
 // A tree as linked nodes.
-ghost use Rattle.std.specs.Prelude.{◌≡◌, ◌+◌, ◌<◌, ◌↔◌, [], not, is_some, length, IfOk, OnOk};
-ghost use Rattle.std.specs.Prelude.{OnErr, Err};
+ghost use Rattle.std.specs.Prelude.{◌≡◌, ◌+◌, ◌<◌, ◌↔◌, [], not, is_some, length, IfOk, OnOk, OnErr, Err};
+ghost use Rattle.std.specs.Prelude.{Some, None, ℕ, take, IfErr};
 ghost use Rattle.std.specs.Option.{option_copied, option_map};
 ghost use Rattle.rt_tree.specs.PathTree.{null, is_null, sub, put, leaf_of, levels};
 ghost use Rattle.rt_store.specs.Rows.{row, from_path};
 ghost use Rattle.rt_store.specs.Stored.{IsAsBefore, onward, some_row, behind, tree_at, key_at};
-ghost use Rattle.rt_store.specs.declared.error.StoreError.TheVariants.{TooDeep};
+ghost use Rattle.rt_store.specs.declared.error.StoreError.TheVariants.{TooDeep, NoMemory};
+ghost use Rattle.rt_store.specs.Runs.{after, after_all};
+ghost use Rattle.rt_store.specs.laws.Walks.{RowsRise, RowsHaveTheChildren, PathsLead};
 
-use crate::build::build;
 use crate::clear::clear_row;
 use crate::error::StoreError;
-use crate::grow::content;
-use crate::node::Node;
-use crate::put::put_row;
+use crate::nodes::{build, content, put_row};
 use rt_nodes::{Linked, Siblings};
 use rt_tree::{Key, Leaf, MAX_LEVELS, Path, Tree};
 use std::alloc::{AllocError, Global};
@@ -238,3 +237,106 @@ impl Store {
         }
     }
 }
+
+// ---- a place in a store
+
+/// What stands at a place of a store. A node is good until the store next changes; after that it
+/// may stand for anything that is in the store, or for nothing.
+#[derive(Clone, Copy, Debug, PartialEq, Eq)]
+pub struct Node {
+    // The key of the node in the slab; none at the root.
+    index: Option<usize>,
+}
+
+impl Model for Node {
+    ghost use Rattle.std.specs.Prelude.{ℕ, Option};
+
+    ghost Value = { Option ℕ };
+
+    ghost view = { λ a. a.index };
+
+    ghost inverse = { λ v. record { index = v } };
+}
+
+impl Node {
+    // The node of the root.
+    pub(crate) fn root() -> Node
+        ensures { result ≡ None }
+    {
+        Node { index: None }
+    }
+
+    // The node that a link leads to.
+    pub(crate) fn linked(link: Option<usize>) -> Option<Node>
+        ensures { result ≡ option_map Some link }
+    {
+        match link {
+            Some(index) => Some(Node { index: Some(index) }),
+            None => None,
+        }
+    }
+
+    pub(crate) fn index(self) -> Option<usize>
+        ensures { result ≡ self }
+    {
+        self.index
+    }
+}
+
+// ---- runs of changes
+
+/// A change of a store.
+#[derive(Debug, Drop)]
+pub enum Change {
+    Set(Path, Tree),
+    Clear(Path),
+}
+
+impl Store {
+    /// Makes each change in turn. One that would put a value below more than 32 keys changes
+    /// nothing, and the next ones follow.
+    ///
+    /// # Errors
+    ///
+    /// `NoMemory`, after which the changes before that one stay made, and neither that one nor
+    /// those behind it.
+    pub fn run(&mut self, alloc: Global, changes: &[Change]) -> Result<(), StoreError>
+        ensures ok { OnOk result (self.new.tree ≡ after_all self.old.tree changes.now) }
+        ensures err { OnErr result ((n : ℕ) × (n < length changes.now)
+            × (self.new.tree ≡ after_all self.old.tree (take n changes.now))) }
+        ensures errors { IfErr result (λ e. e ≡ NoMemory) }
+    {
+        for change in changes {
+            self.change(alloc, change)?;
+        }
+        Ok(())
+    }
+
+    // Makes a change, unless it is too deep.
+    fn change(&mut self, alloc: Global, change: &Change) -> Result<(), StoreError>
+        ensures ok { OnOk result (self.new.tree ≡ after self.old.tree change.now) }
+        ensures err { OnErr result (IsAsBefore self.old self.new) }
+        ensures errors { IfErr result (λ e. e ≡ NoMemory) }
+    {
+        match change {
+            Change::Set(path, tree) => match self.set(alloc, path, tree) {
+                Err(StoreError::NoMemory) => Err(StoreError::NoMemory),
+                _ => Ok(()),
+            },
+            Change::Clear(path) => {
+                self.clear(path);
+                Ok(())
+            }
+        }
+    }
+}
+
+// ---- the laws of walks
+
+/// A walk meets each child once, in the order of keys, and nothing else; from a path it meets first
+/// what stands there.
+pub fn walk_law()
+    ensures rise { RowsRise }
+    ensures children { RowsHaveTheChildren }
+    ensures lead { PathsLead }
+{}

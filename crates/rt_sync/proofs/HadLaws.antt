@@ -16,7 +16,7 @@ use Rattle.rt_query.specs.QueryEq.{query_eq}
 use Rattle.rt_query.specs.QueryOrder.{query_cmp}
 use Rattle.rt_query.specs.laws.QueryEq.{query_eq_tells}
 use Rattle.rt_query.specs.laws.QueryOrder.{queries_total, exact_queries}
-use Rattle.rt_sync.specs.declared.steps.moving.Had.{Had}
+use Rattle.rt_sync.specs.declared.steps.losses.Had.{Had}
 use Rattle.rt_sync.specs.inside.Moving.{had_cmp, had_of, has_come}
 
 had_total : IsTotalOrder had_cmp

@@ -11,14 +11,14 @@ use Rattle.rt_query.specs.laws.QueryEq.{query_eq_tells}
 use Rattle.rt_writes.specs.Writes.{Write}
 use Rattle.rt_cache.specs.Brought.{Brought, with_form}
 use Rattle.rt_cache.specs.Recover.{is_among, is_moved, recover}
-use Rattle.rt_cover.specs.declared.delta.Delta.{Delta}
+use Rattle.rt_cover.specs.declared.change.Delta.{Delta}
 use Rattle.rt_cover.specs.Cover.{Registered, Tagged}
 use Rattle.rt_cover.specs.laws.KeepLaws.{Contains-map}
 use Rattle.rt_cover.specs.State.{Cover, added, difference, listen_at, removed, revoked, without_tag}
 use Rattle.rt_wire.specs.declared.client.ClientMessage.{ClientMessage}
 use Rattle.rt_parts.specs.Listeners.{Listeners, cancelled_note, counts_left, new_listener, views_left}
 use Rattle.rt_parts.specs.Renewed.{all_told_of, count_of, renewed_of, told_of, view_of}
-use Rattle.rt_world.specs.declared.request.Request.{Request}
+use Rattle.rt_world.specs.declared.step.Request.{Request}
 use Rattle.rt_world.specs.declared.step.Step.{Step}
 use Rattle.rt_world.specs.World.{Reason, World, Listener, registered, listening, pending, listen_of}
 use Rattle.rt_world.specs.After.{brought_after, listeners_after, renewed, requests_after}
@@ -32,7 +32,7 @@ use Rattle.rt_world.specs.laws.Listened.{CloseSeatIsMade, left_brought, ListenIs
 use Rattle.rt_world.proofs.Listeners.{registered-renewed}
 use Rattle.rt_world.specs.laws.Holds.{CoverFollows}
 use Rattle.rt_sync.specs.Core.{Held}
-use Rattle.rt_sync.specs.declared.told.Told.{Told}
+use Rattle.rt_sync.specs.declared.state.Told.{Told}
 use Rattle.rt_sync.specs.inside.Due.{IsDue, IsNext}
 use Rattle.rt_sync.specs.inside.Losing.{AreMoved}
 use Rattle.rt_sync.specs.inside.Parts.{changing}

@@ -17,7 +17,7 @@ use Rattle.rt_query.specs.laws.SupplyLaws.{supplied_is_filtered}
 use Rattle.rt_cache.specs.Brought.{Brought}
 use Rattle.rt_cache.specs.Recover.{reaches, is_among, is_under_lost, EndsForms}
 use Rattle.rt_cache.proofs.Places.{comparable}
-use Rattle.rt_cover.specs.declared.delta.Delta.{Delta}
+use Rattle.rt_cover.specs.declared.change.Delta.{Delta}
 use Rattle.rt_cover.specs.Cover.{Registered, Tagged, Supplies, forms, is_kept, needed}
 use Rattle.rt_cover.specs.State.{Cover, needed_forms, supplier}
 use Rattle.rt_cover.specs.laws.Apart.{PlainsStandApart}

@@ -12,8 +12,8 @@ use Rattle.rt_query.specs.Supply.{form}
 use Rattle.rt_query.specs.laws.QueryEq.{query_eq_tells}
 use Rattle.rt_cache.specs.Brought.{Window}
 use Rattle.rt_cache.specs.Recover.{is_among}
-use Rattle.rt_cover.specs.declared.delta.Delta.{Delta}
-use Rattle.rt_cover.specs.declared.kept.Kept.{Kept}
+use Rattle.rt_cover.specs.declared.change.Delta.{Delta}
+use Rattle.rt_cover.specs.declared.listen.Kept.{Kept}
 use Rattle.rt_cover.specs.Cover.{Registered, Tagged, forms, is_kept}
 use Rattle.rt_cover.specs.State.{Cover, difference, ended_by, left_after, listen_at, needed_forms, numbers_of, removed, revoked, shown_with, started_for, with_listeners, without_form, without_listeners, without_tag}
 use Rattle.rt_cover.specs.laws.CoverLaws.{Contains-filter, Contains-from_filter, passes-from_filter, is_covered}

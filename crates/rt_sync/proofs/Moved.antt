@@ -20,7 +20,7 @@ use Rattle.rt_cache.proofs.Changing.{is_brought, is_change}
 use Rattle.rt_cache.proofs.FilteredRuns.{calls_hold}
 use Rattle.rt_cache.proofs.Moves.{IsBrought, IsChange, IsSource, source_is, brought_still, kind_of, old_heir}
 use Rattle.rt_cache.proofs.Unmoved.{no_region, own_source}
-use Rattle.rt_cover.specs.declared.delta.Delta.{Delta}
+use Rattle.rt_cover.specs.declared.change.Delta.{Delta}
 use Rattle.rt_cover.specs.Cover.{Registered, Tagged}
 use Rattle.rt_cover.specs.State.{Cover}
 use Rattle.rt_cover.specs.laws.Apart.{PlainsStandApart}
@@ -29,7 +29,7 @@ use Rattle.rt_cover.specs.laws.FormLaws.{same_tests}
 use Rattle.rt_cover.specs.laws.KeepLaws.{Contains-from_map, Contains-map, length_of_map}
 use Rattle.rt_world.specs.World.{Listener, registered, listening}
 use Rattle.rt_world.proofs.RecoverLaws.{region_after}
-use Rattle.rt_sync.specs.declared.steps.moving.Had.{Had}
+use Rattle.rt_sync.specs.declared.steps.losses.Had.{Had}
 use Rattle.rt_sync.specs.inside.Losing.{HasLost}
 use Rattle.rt_parts.specs.Refreshed.{is_supplied_at}
 use Rattle.rt_sync.specs.inside.Moving.{may_move_at, may_move_it, has_others, is_lent, is_had, AreHad, has_come, is_moved_now, is_moved_among}

@@ -15,7 +15,7 @@ use Rattle.rt_cache.specs.Recover.{is_among}
 use Rattle.rt_parts.specs.Refreshed.{is_supplied_at}
 use Rattle.rt_parts.specs.Renewed.{is_listened_at}
 use Rattle.rt_world.specs.World.{Listener}
-use Rattle.rt_sync.specs.declared.steps.moving.Had.{Had}
+use Rattle.rt_sync.specs.declared.steps.losses.Had.{Had}
 use Rattle.rt_sync.specs.inside.Moving.{is_of_path, has_others, is_lent, is_had, HaveSources}
 
 -- ---- tests

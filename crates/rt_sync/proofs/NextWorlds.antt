@@ -17,7 +17,7 @@ use Rattle.rt_wire.specs.declared.limits.TheConstants.{VERSION}
 use Rattle.rt_wire.specs.declared.request.Action.{Action}
 use Rattle.rt_wire.specs.declared.request.Asked.TheVariants.{Now, AtDisconnect}
 use Rattle.rt_wire.specs.declared.request.Ending.{Ending}
-use Rattle.rt_world.specs.declared.request.Request.{Request}
+use Rattle.rt_world.specs.declared.step.Request.{Request}
 use Rattle.rt_world.specs.declared.step.Step.{Step}
 use Rattle.rt_world.specs.declared.report.Body.TheVariants.{Settled}
 use Rattle.rt_world.specs.declared.report.Note.{Note}
@@ -34,7 +34,7 @@ use Rattle.rt_world.specs.Met.{do_meet, renewed_met, all_told}
 use Rattle.rt_world.specs.laws.Made.{asked_sent, IsMade, Leaves, AcceptedIsMade, RefusedIsMade, PushIsMade, WriteIsMade, EndingIsMade, ConnectedIsMade, DisconnectedIsMade, settled_world, settled_told, writes_with}
 use Rattle.rt_world.specs.laws.Steps.{RenewedIsOne, WriteIsPending, SettledIsNotPending}
 use Rattle.rt_sync.specs.Core.{Held}
-use Rattle.rt_sync.specs.declared.told.Told.{Told}
+use Rattle.rt_sync.specs.declared.state.Told.{Told}
 use Rattle.rt_sync.specs.inside.Due.{IsDue, IsNext, settling}
 use Rattle.rt_sync.specs.inside.Parts.{listens_shown}
 use Rattle.rt_sync.specs.declared.state.State.{State}

@@ -21,7 +21,7 @@ use Rattle.rt_parts.specs.Listeners.{first_view_of, new_listener, views_left, vi
 use Rattle.rt_parts.specs.Refreshed.{FollowNamed, hears, is_touched, named_children, view_after, view_heard, view_met}
 use Rattle.rt_parts.specs.Renewed.{renewed_of, view_anew, view_of}
 use Rattle.rt_world.specs.declared.step.Step.{Step}
-use Rattle.rt_world.specs.declared.request.Request.{Request}
+use Rattle.rt_world.specs.declared.step.Request.{Request}
 use Rattle.rt_world.specs.World.{World, Listener, pending, Reason}
 use Rattle.rt_world.specs.Views.{is_known, view_of as shown_over}
 use Rattle.rt_world.specs.After.{kind, listeners_after, pushed, renewed, requests_after}

@@ -4,7 +4,7 @@ use Rattle.std.specs.Prelude.{Option, Some, None, Result, Ok, Err}
 use Rattle.std.specs.List.{find}
 use Rattle.std.specs.Option.{option_map, option_map_or}
 use Rattle.rt_query.specs.Select.{Shown}
-use Rattle.rt_cover.specs.declared.kept.Kept.{Kept}
+use Rattle.rt_cover.specs.declared.listen.Kept.{Kept}
 use Rattle.rt_view.specs.Views.{View}
 use Rattle.rt_wire.specs.declared.client.ClientMessage.{ClientMessage}
 use Rattle.rt_world.specs.declared.error.CoreError.{CoreError}

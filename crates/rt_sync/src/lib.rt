@@ -20,19 +20,11 @@ ghost use Rattle.rt_sync.specs.Core.{Applies, Covers, TakesOut, Views, empty_hel
 ghost use Rattle.rt_sync.specs.Core.{counts_in, refusal_in, views_in, world_in};
 ghost use Rattle.rt_sync.specs.Reads.{Counts, Reads};
 
-mod applying;
-mod laws;
-mod refusal;
-mod room;
+mod dispatch;
 mod runs;
-mod sending;
-mod showing;
 mod state;
 mod steps;
-mod told;
 
-pub use laws::{counting_law, run_law};
-pub use room::{NoRoom, Room};
 use rt_cover::KeptList;
 use rt_query::Shown;
 pub use rt_world::{
@@ -40,8 +32,9 @@ pub use rt_world::{
     Reason, Report, Step,
 };
 use rt_world::{answer_law, holding_law, sending_law, steady_law};
-pub use runs::{Answers, run, run_in};
+pub use runs::{Answers, counting_law, run, run_in, run_law};
 use state::State;
+pub use state::{NoRoom, Room};
 use std::alloc::Global;
 use std::marker::Model;
 

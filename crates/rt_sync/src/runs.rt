@@ -3,9 +3,11 @@ ghost use Rattle.std.specs.Prelude.{◌≡◌, ◌≤◌, [], length, Some, IfEr
 ghost use Rattle.rt_world.specs.World.{World};
 ghost use Rattle.rt_world.specs.Headline.{Headline};
 ghost use Rattle.rt_sync.specs.Core.{AppliesAll, world_in};
+ghost use Rattle.rt_sync.specs.laws.Counting.{NotThrownAway, OneIsCounted};
+ghost use Rattle.rt_sync.specs.laws.Runs.{AnsweredIsMade};
 
 use crate::Core;
-use crate::room::{NoRoom, Room};
+use crate::state::{NoRoom, Room};
 use rt_world::{CoreError, Report, Step, holding_law};
 use std::alloc::Global;
 use std::marker::Model;
@@ -75,3 +77,18 @@ pub fn run_in(room: Room, core: &mut Core, steps: Vec<Step>) -> Answers
     }
     Answers { items }
 }
+
+// ---- laws of the core, for whoever calls them: each is a function without code
+
+/// Where no step lacked memory, a run that is answered step by step makes and answers the world's
+/// steps, one after another.
+pub fn run_law()
+    ensures { AnsweredIsMade }
+{}
+
+/// What a listener's count tells: a view that is touched with one child counts that one, and no view
+/// that is made anew and touched with nothing stands for the one that was thrown away.
+pub fn counting_law()
+    ensures one { OneIsCounted }
+    ensures anew { NotThrownAway }
+{}

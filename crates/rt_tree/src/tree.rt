@@ -13,10 +13,9 @@ ghost use Rattle.rt_tree.specs.inside.Puts.{PutsBelow};
 ghost use Rattle.rt_tree.specs.inside.TreeView.{IsObject};
 
 mod children;
-mod named;
-mod reading;
-mod taking;
-mod writing;
+mod names;
+mod text;
+mod value;
 
 use crate::error::TreeError;
 use crate::key::Key;

@@ -7,9 +7,9 @@ use Rattle.rt_order.specs.declared.index.Index.{Index}
 use Rattle.rt_order.specs.Entries.{Entry, entry}
 use Rattle.rt_query.specs.Queries.{Query, is_filtered}
 use Rattle.rt_query.specs.Select.{row_of}
-use Rattle.rt_view.specs.declared.kind.Kind.{Kind}
-use Rattle.rt_view.specs.declared.kind.Kind.TheVariants.{Added, Moved, Changed}
-use Rattle.rt_view.specs.declared.told.Told.{Told}
+use Rattle.rt_view.specs.declared.kinds.Kind.{Kind}
+use Rattle.rt_view.specs.declared.kinds.Kind.TheVariants.{Added, Moved, Changed}
+use Rattle.rt_view.specs.declared.news.Told.{Told}
 use Rattle.rt_view.specs.Changes.{placed_changes, removals}
 use Rattle.rt_view.specs.inside.Given.{change_of, is_given, row_change}
 use Rattle.rt_view.specs.inside.Windows.{Entries, before, value_at}

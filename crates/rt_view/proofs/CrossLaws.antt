@@ -15,8 +15,8 @@ use Rattle.rt_order.specs.declared.index.Index.{Index}
 use Rattle.rt_order.specs.Cuts.{has}
 use Rattle.rt_order.specs.laws.EntryOrder.{entry_cmp_total, value_cmp-IsAntisymmetric}
 use Rattle.rt_query.specs.Queries.{Query}
-use Rattle.rt_query.specs.declared.limit.Limit.{Limit}
-use Rattle.rt_query.specs.declared.limit.Limit.TheVariants.{First, Last}
+use Rattle.rt_query.specs.declared.query.Limit.{Limit}
+use Rattle.rt_query.specs.declared.query.Limit.TheVariants.{First, Last}
 use Rattle.rt_view.specs.declared.window.Turned.{Turned}
 use Rattle.rt_view.specs.declared.window.Window.{Window}
 use Rattle.rt_view.specs.inside.Windows.{Entries, IsWindow, is_from_first, is_there, is_to_last, joined, value_at, without, rest_in, shown_in}

@@ -8,13 +8,13 @@ use Rattle.std.specs.BTreeMap.{is_at}
 use Rattle.std.specs.FinMap as map_of
 use Rattle.std.specs.FinMap.Entries.{is_sorted, below_all}
 use Rattle.rt_chain.specs.Chains.{half_between, is_half}
-use Rattle.rt_chain.specs.declared.half.Half.{Half}
-use Rattle.rt_chain.specs.declared.half.Half.TheVariants.{Front, Behind}
+use Rattle.rt_chain.specs.declared.chain.Half.{Half}
+use Rattle.rt_chain.specs.declared.chain.Half.TheVariants.{Front, Behind}
 use Rattle.rt_tree.specs.PathTree.{Key, PathTree, first}
 use Rattle.rt_order.specs.Entries.{Entry, entry_cmp}
 use Rattle.rt_order.specs.laws.EntryOrder.{entry_cmp_total}
-use Rattle.rt_query.specs.declared.limit.Limit.{Limit}
-use Rattle.rt_query.specs.declared.limit.Limit.TheVariants.{First, Last}
+use Rattle.rt_query.specs.declared.query.Limit.{Limit}
+use Rattle.rt_query.specs.declared.query.Limit.TheVariants.{First, Last}
 use Rattle.rt_view.specs.inside.Halves.{Halved}
 use Rattle.rt_view.specs.inside.Turns.{Refilled, Refills, Spilled}
 use Rattle.rt_view.specs.inside.Windows.{Entries, GoesAhead, GoesBack, IsWindow, Puts, half_at, half_of, is_from_first, is_there, is_to_last, joined, rest_from, shown_from, without}

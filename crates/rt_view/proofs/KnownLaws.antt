@@ -13,13 +13,13 @@ use Rattle.std.specs.FinMap.Entries.{below_all, by_order, is_sorted}
 use Rattle.std.proofs.lemmas.Map.Keys.{sorted_head, sorted_tail}
 use Rattle.rt_chain.specs.Chains as chains
 use Rattle.rt_chain.specs.Chains.{Chain, all_in, below, half_between, in_half, last_in, last_or, slots_of}
-use Rattle.rt_chain.specs.declared.half.Half.{Half}
-use Rattle.rt_chain.specs.declared.half.Half.TheVariants.{Front, Behind}
+use Rattle.rt_chain.specs.declared.chain.Half.{Half}
+use Rattle.rt_chain.specs.declared.chain.Half.TheVariants.{Front, Behind}
 use Rattle.rt_tree.specs.PathTree.{Key, PathTree, both}
 use Rattle.rt_order.specs.declared.cut.Range.{Range}
 use Rattle.rt_order.specs.Entries.{Entry, entry_cmp}
 use Rattle.rt_view.proofs.WindowLaws.{same_entry}
-use Rattle.rt_view.specs.declared.known.Child.{Child}
+use Rattle.rt_view.specs.declared.children.Child.{Child}
 use Rattle.rt_view.specs.inside.Known.{AllMarked, IsMarked, Linked, children_in, halves_of, key_above, last_below, last_child}
 use Rattle.rt_view.specs.inside.Windows.{Entries, GoesAhead, GoesBack, Puts, half_at, half_in, is_from_first, is_there, is_to_last}
 

@@ -2,12 +2,12 @@
 use Rattle.std.proofs.Common.{◌≡◌, ℕ, ◌<◌, ◌≤◌, ◌-◌, ◌+◌, List, [], ◌∷◌, ◌++◌, map, length, take, drop, append_assoc, append-nil, refl, sym, ap, subst, ◌∙◌, arith, length-append, Option, Some, None}
 use Rattle.std.proofs.lemmas.List.{drop-map, drop_at, length-drop, length-map, length-take-le, map-append, take-append-drop, take-map}
 use Rattle.rt_chain.specs.Chains.{Chain, all_in, head_or, in_half, last_or, slots_of}
-use Rattle.rt_chain.specs.declared.half.Half.{Half}
-use Rattle.rt_chain.specs.declared.half.Half.TheVariants.{Front, Behind}
+use Rattle.rt_chain.specs.declared.chain.Half.{Half}
+use Rattle.rt_chain.specs.declared.chain.Half.TheVariants.{Front, Behind}
 use Rattle.rt_order.specs.Entries.{Entry}
 use Rattle.rt_query.specs.declared.row.Row.{Row}
 use Rattle.rt_query.specs.Select.{row_of}
-use Rattle.rt_view.specs.declared.known.Child.{Child}
+use Rattle.rt_view.specs.declared.children.Child.{Child}
 use Rattle.rt_view.specs.inside.Known.{Backs, Linked, Walks, children_in, halves_of, near_cut}
 use Rattle.rt_view.specs.inside.Windows.{half_in}
 use Rattle.rt_view.proofs.KnownLaws.{children-append, children-length}

@@ -1,5 +1,5 @@
 pub mod AloneLaws
-pub mod Children
+pub mod ChildLists
 pub mod CrossLaws
 pub mod DifferLaws
 pub mod HalfLaws

@@ -15,9 +15,9 @@ use Rattle.rt_tree.specs.PathTree.{PathTree, first, second}
 use Rattle.rt_order.specs.declared.cut.Range.{Range}
 use Rattle.rt_order.specs.Cuts.{has}
 use Rattle.rt_order.specs.Entries.{Entry, entry_cmp}
-use Rattle.rt_query.specs.declared.limit.Limit.{Limit}
-use Rattle.rt_query.specs.declared.limit.Limit.TheVariants.{First, Last}
-use Rattle.rt_view.specs.declared.known.Child.{Child}
+use Rattle.rt_query.specs.declared.query.Limit.{Limit}
+use Rattle.rt_query.specs.declared.query.Limit.TheVariants.{First, Last}
+use Rattle.rt_view.specs.declared.children.Child.{Child}
 use Rattle.rt_view.specs.inside.Halves.{Halved}
 use Rattle.rt_view.specs.inside.Known.{IsMarked, Linked, children_in, halves_of, marked}
 use Rattle.rt_view.specs.inside.Ranged.{IsSpread, between, cut_at, inside, outside}

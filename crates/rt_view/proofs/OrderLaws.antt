@@ -18,7 +18,7 @@ use Rattle.rt_order.specs.KeyOrder.{integer_of, key_cmp_by}
 use Rattle.rt_order.specs.Values.{Null}
 use Rattle.rt_query.specs.Queries.{Query}
 use Rattle.rt_query.specs.Select.{sorted_by}
-use Rattle.rt_view.specs.declared.told.Seen.{Seen}
+use Rattle.rt_view.specs.declared.news.Seen.{Seen}
 use Rattle.rt_view.specs.declared.window.Window.{Window}
 use Rattle.rt_view.specs.Views.{with_named}
 use Rattle.rt_view.specs.inside.Windows.{Entries, before, last_key, value_at}

@@ -11,8 +11,8 @@ use Rattle.std.specs.FinMap as map_of
 use Rattle.std.specs.FinMap.Entries.{by_order, is_sorted, is_sorted-where_key, below_all}
 use Rattle.std.proofs.lemmas.List.Elements.{filter-append}
 use Rattle.rt_chain.specs.Chains.{half_between}
-use Rattle.rt_chain.specs.declared.half.Half.{Half}
-use Rattle.rt_chain.specs.declared.half.Half.TheVariants.{Front, Behind}
+use Rattle.rt_chain.specs.declared.chain.Half.{Half}
+use Rattle.rt_chain.specs.declared.chain.Half.TheVariants.{Front, Behind}
 use Rattle.rt_tree.specs.PathTree.{Key, PathTree, first, second}
 use Rattle.rt_order.specs.declared.cut.Cut.{Cut}
 use Rattle.rt_order.specs.declared.cut.Range.{Range}

@@ -15,7 +15,7 @@ use Rattle.std.proofs.lemmas.Bool.{cases_lt}
 use Rattle.rt_tree.specs.PathTree.{Key, key_cmp}
 use Rattle.rt_order.specs.Entries.{Entry, entry_cmp}
 use Rattle.rt_order.specs.laws.EntryOrder.{entry_cmp_total}
-use Rattle.rt_view.specs.declared.told.Seen.{Seen}
+use Rattle.rt_view.specs.declared.news.Seen.{Seen}
 use Rattle.rt_view.specs.inside.Telling.{kept_by, put_all, seen_too}
 
 pub fold_push : {A B : Type 0} (f : B → A → B) (a : B) (xs : List A) (x : A) → fold f a (xs ++ x ∷ []) ≡ f (fold f a xs) x

@@ -17,7 +17,7 @@ use Rattle.rt_tree.specs.PathTree.{Key, PathTree, first, second, key_cmp, key_eq
 use Rattle.rt_tree.specs.Children.{children_of}
 use Rattle.rt_order.specs.declared.index.Index.{Index}
 use Rattle.rt_query.specs.Queries.{Query}
-use Rattle.rt_view.specs.declared.told.Seen.{Seen}
+use Rattle.rt_view.specs.declared.news.Seen.{Seen}
 use Rattle.rt_view.specs.declared.window.Turned.{Turned}
 use Rattle.rt_view.specs.declared.window.Window.{Window}
 use Rattle.rt_view.specs.inside.Windows.{Entries, value_at}

@@ -9,7 +9,7 @@ use Rattle.rt_tree.specs.Children.{children_of, child_of-children_of}
 use Rattle.rt_tree.specs.TreeEq.{leaf_eq}
 use Rattle.rt_order.specs.declared.index.Index.{Index}
 use Rattle.rt_query.specs.declared.row.Row.{Row}
-use Rattle.rt_query.specs.declared.limit.Limit.{Limit}
+use Rattle.rt_query.specs.declared.query.Limit.{Limit}
 use Rattle.rt_query.specs.Queries.{Query, is_filtered}
 use Rattle.rt_query.specs.Select.{Shown, row_of, rows_of, select, as_children, tree_by, tree_of}
 use Rattle.rt_query.specs.inside.ShownView.{IsShown}
@@ -19,8 +19,8 @@ use Rattle.rt_query.specs.laws.Select.{object-parts, object-sorted_by, select-wh
 use Rattle.rt_query.proofs.ShownLaws.{child_of-as_children, row_at-tree}
 use Rattle.rt_query.proofs.RowLaws.{shown_filtered, shown_whole}
 use Rattle.rt_view.specs.declared.change.Change.{Change}
-use Rattle.rt_view.specs.declared.kept.Kept.{Kept}
-use Rattle.rt_view.specs.declared.kept.Kept.TheVariants.{Ordered, Plain, Filtered}
+use Rattle.rt_view.specs.declared.view.Kept.{Kept}
+use Rattle.rt_view.specs.declared.view.Kept.TheVariants.{Ordered, Plain, Filtered}
 use Rattle.rt_view.specs.declared.change.Change.TheVariants.{Value}
 use Rattle.rt_view.specs.Changes.{row_changes, changes, replay, by_keys}
 use Rattle.rt_view.specs.inside.Windows.{Entries, value_at}

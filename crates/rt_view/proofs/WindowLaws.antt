@@ -14,8 +14,8 @@ use Rattle.std.proofs.lemmas.List.{take_at, take_all, length-take, length-drop, 
 use Rattle.rt_tree.specs.PathTree.{Key, PathTree, key_eq, both, first, second}
 use Rattle.rt_order.specs.Entries.{Entry, entry_cmp}
 use Rattle.rt_order.specs.laws.EntryOrder.{entry_cmp_total, entry_cmp-IsAntisymmetric}
-use Rattle.rt_query.specs.declared.limit.Limit.{Limit}
-use Rattle.rt_query.specs.declared.limit.Limit.TheVariants.{First, Last}
+use Rattle.rt_query.specs.declared.query.Limit.{Limit}
+use Rattle.rt_query.specs.declared.query.Limit.TheVariants.{First, Last}
 use Rattle.rt_query.specs.Select.{row_of}
 use Rattle.rt_view.specs.inside.Windows.{Entries, IsWindow, without, value_at, is_from_first, is_to_last, last_key}
 use Rattle.rt_view.proofs.ReplayLaws.{row_at-cons}

@@ -7,7 +7,7 @@ ghost use Rattle.rt_tree.specs.PathTree.{key_cmp, levels};
 ghost use Rattle.rt_view.specs.Views.{with_named};
 ghost use Rattle.rt_view.specs.inside.Differences.{come, differing, gone, stays};
 
-use crate::seek::{ChildRef, Guess, listed, seek_child};
+use crate::comparison::{ChildRef, Guess, listed, seek_child};
 use rt_map::OrdMap;
 use rt_tree::{Key, MAX_KEYS, Tree};
 use std::alloc::{AllocError, Global};

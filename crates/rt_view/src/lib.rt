@@ -7,38 +7,24 @@
 //! ```
 #![tactic(auto)]
 
-mod alone;
-mod apply;
-mod batch;
 mod change;
-mod change_list;
-mod compare;
+mod children;
+mod comparison;
 mod difference;
 mod examples;
-mod kept;
-mod kind;
 mod kinds;
-mod known;
 mod laws;
-mod order;
-mod others;
-mod place;
+mod news;
 mod position;
-mod ranged;
-mod rising;
-mod seek;
-mod tell;
-mod told;
+mod replay;
 mod touch;
 mod view;
 mod window;
 
-pub use apply::apply_changes;
-pub use batch::Batch;
-pub use change::Change;
-pub use change_list::ChangeList;
-pub use compare::changes;
+pub use change::{Batch, Change, ChangeList};
+pub use comparison::changes;
 pub use examples::{kind_examples, order_examples, plain_examples, view_examples, window_examples};
 pub use kinds::{Kinds, of_kinds};
 pub use laws::{replay_laws, run_laws, turn_laws};
+pub use replay::apply_changes;
 pub use view::{View, ViewError};

@@ -1,26 +1,28 @@
 // Named children, put into a known tree and its window, or into a tree in the query's order.
-ghost use Rattle.std.specs.Prelude.{◌≡◌, ◌≤◌, ◌∷◌, [], true, false, All, IfOk, OnOk, Some};
+ghost use Rattle.std.specs.Prelude.{◌≡◌, ◌≤◌, ◌∷◌, [], true, false, All, IfOk, OnOk, Some, not, length};
 ghost use Rattle.std.specs.Option.{option_copied};
-ghost use Rattle.rt_tree.specs.PathTree.{PathTree, child_of, levels, put};
+ghost use Rattle.std.specs.List.{list_any};
+ghost use Rattle.std.specs.Map.{keys_of};
+ghost use Rattle.rt_tree.specs.PathTree.{PathTree, child_of, levels, put, key_eq};
 ghost use Rattle.rt_tree.specs.Children.{children_of};
 ghost use Rattle.rt_query.specs.Queries.{is_filtered};
 ghost use Rattle.rt_query.specs.Select.{select, tree_of};
 ghost use Rattle.rt_view.specs.Changes.{changes};
 ghost use Rattle.rt_view.specs.Views.{with_named};
-ghost use Rattle.rt_view.specs.inside.Windows.{Becomes, IsListed, IsWhole, all_of, known_in};
-ghost use Rattle.rt_view.specs.inside.Windows.{shown_in, value_at};
+ghost use Rattle.rt_view.specs.inside.Windows.{Becomes, IsListed, IsWhole, all_of, known_in, shown_in};
+ghost use Rattle.rt_view.specs.inside.Windows.{value_at};
 ghost use Rattle.rt_view.specs.inside.Turns.{Comes, Leaves, Stands, Values};
-ghost use Rattle.rt_view.specs.inside.Kept.{ComesToWord, IsOrdered, IsWindowOf, NameWords};
-ghost use Rattle.rt_view.specs.inside.Kept.{brought_in, rows_in_tree, stands_in, wholly};
+ghost use Rattle.rt_view.specs.inside.Kept.{ComesToWord, IsOrdered, IsWindowOf, NameWords, brought_in};
+ghost use Rattle.rt_view.specs.inside.Kept.{rows_in_tree, stands_in, wholly};
 ghost use Rattle.rt_view.specs.inside.Telling.{AllSeen, KeepsSeen, kept_by, left_by, takes_place};
 
-use crate::alone::tell_alone;
-use crate::change_list::ChangeList;
-use crate::place::{child_at, copy_leaf, put_child};
-use crate::position::Position;
-use crate::tell::{tell_filtered, tell_plain};
-use crate::told::{Seen, copy_tree, in_key_order, note_stands, note_turned};
+use crate::change::{ChangeList, tell_alone};
+use crate::news::{
+    Seen, copy_tree, in_key_order, note_stands, note_turned, tell_filtered, tell_plain,
+};
+use crate::position::{Position, child_at, copy_leaf, put_child};
 use crate::window::{Turned, Window};
+use rt_map::OrdMap;
 use rt_order::{Index, sort_value, value_cmp};
 use rt_query::Query;
 use rt_tree::{Key, MAX_KEYS, Tree};
@@ -283,4 +285,54 @@ pub fn touch_ordered(
     let leaf = copy_leaf(alloc, known)?;
     let seen = touch_each(known, alloc, named)?;
     tell_plain(alloc, query, known, None, seen.as_slice(), leaf.as_ref())
+}
+
+// ---- whether a tree has a child beside the named ones
+
+// The first place, from one on, at which no key stands that is in front of this one.
+fn place_from(named: &[(Key, Tree)], from: usize, key: &Key) -> usize
+    ensures { result ≤ length named.now }
+{
+    for at in from..named.len() {
+        if named[at].0 >= *key {
+            return at;
+        }
+    }
+    named.len()
+}
+
+// Whether the key stands at a place.
+fn stands_at(named: &[(Key, Tree)], at: usize, key: &Key) -> bool
+    ensures { result ≡ true → list_any (λ c. key_eq c.0 key.now) named.now ≡ true }
+{
+    match named.get(at) {
+        Some(child) => child.0 == *key,
+        None => false,
+    }
+}
+
+// Whether the key is one of the named ones. Keys that are asked for in order are found from the next
+// place on, where the named ones are in order too; what stands there is tested, so any order will do.
+fn is_named(named: &[(Key, Tree)], next: &mut usize, key: &Key) -> bool
+    ensures { result ≡ list_any (λ c. key_eq c.0 key.now) named.now }
+{
+    *next = place_from(named, *next, key);
+    if stands_at(named, *next, key) {
+        return true;
+    }
+    named.iter().any(|child| child.0 == *key)
+}
+
+// Whether one of the children is none of the named ones. It goes over the children until it meets one.
+pub fn has_other(children: &OrdMap<Key, Tree>, named: &[(Key, Tree)]) -> bool
+    ensures { result ≡ list_any (λ k. not (list_any (λ d. key_eq d.0 k) named.now))
+        (keys_of children.now.entries) }
+{
+    let mut next = 0;
+    for key in children.keys() {
+        if !is_named(named, &mut next, key) {
+            return true;
+        }
+    }
+    false
 }

@@ -13,8 +13,8 @@ ghost use Rattle.rt_view.specs.inside.Windows.{all_of, before, half_of, is_there
 ghost use Rattle.rt_view.specs.inside.Windows.{put_inside, rest_in, shown_in, without};
 ghost use Rattle.rt_view.specs.inside.Turns.{Refills, Spills};
 
+use crate::children::Ranged;
 use crate::position::Position;
-use crate::ranged::Ranged;
 use rt_chain::Half;
 use rt_order::Range;
 use rt_query::{Limit, Row};

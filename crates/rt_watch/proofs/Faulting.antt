@@ -1,7 +1,7 @@
 -- Which faults are those of a writer.
 use Rattle.std.proofs.Common.{◌≡◌, ℕ, refl, subst, sym}
 use Rattle.std.specs.Prelude.{IfErr, OnOk, Result, Ok, Err}
-use Rattle.rt_input.specs.declared.error.ConsoleError.TheVariants as console
+use Rattle.rt_input.specs.declared.fault.ConsoleError.TheVariants as console
 use Rattle.rt_link.specs.declared.error.LinkFault.{LinkFault}
 use Rattle.rt_link.specs.declared.error.LinkFault.TheVariants as link
 use Rattle.rt_watch.specs.declared.fault.WatchFault.{WatchFault}

@@ -1,8 +1,8 @@
 -- What an error tells of the reads before it.
 use Rattle.std.proofs.Common.{◌≡◌, ◌+◌, ℕ, inl, inr, ◌∙◌, arith}
 use Rattle.rt_input.specs.Lines.{TellsOfReads}
-use Rattle.rt_input.specs.declared.error.ConsoleError.{ConsoleError}
-use Rattle.rt_input.specs.declared.error.ConsoleError.TheVariants as console
+use Rattle.rt_input.specs.declared.fault.ConsoleError.{ConsoleError}
+use Rattle.rt_input.specs.declared.fault.ConsoleError.TheVariants as console
 
 -- an error behind lines that were read tells as much of the whole input
 pub tells_of_all : (e : ConsoleError) (count given now later first mid last : ℕ) → now ≡ given + count

@@ -5,10 +5,10 @@ use Rattle.rt_watch.specs.Pacing.{next}
 use Rattle.rt_watch.specs.Queued.{Queue}
 use Rattle.rt_watch.specs.Rounds.{DoesLines, DoesWaiting, IsTurned, Rounds, WritesOut, WritesTurn, waited}
 use Rattle.rt_watch.specs.declared.fault.WatchFault.{WatchFault}
-use Rattle.rt_watch.specs.declared.pace.Next.{Next}
-use Rattle.rt_watch.specs.declared.pace.Next.TheVariants.{GoOn}
+use Rattle.rt_watch.specs.declared.terminal.WatchNext.{WatchNext}
+use Rattle.rt_watch.specs.declared.terminal.WatchNext.TheVariants.{GoOn}
 use Rattle.rt_watch.specs.declared.terminal.Terminal.{Terminal}
-use Rattle.rt_watch.specs.declared.watched.Standing.TheVariants.{Opening}
+use Rattle.rt_watch.specs.declared.watched.LinkStanding.TheVariants.{Opening}
 use Rattle.rt_watch.specs.declared.watched.Watched.{Watched}
 use Rattle.rt_watch.proofs.Faulting.{still, of_link_writes, after_input_writes}
 
@@ -38,7 +38,7 @@ turn_changed had has enough old mid new turned written rest differs = record {
 }
 
 -- what the run does next where nothing changed
-pub turn_written : {N : Type 0} (answer : Result Next WatchFault) (had has : Option (List ℕ))
+pub turn_written : {N : Type 0} (answer : Result WatchNext WatchFault) (had has : Option (List ℕ))
     (enough : Option ℕ) (old mid new : Watched N) → IsTurned old mid
     → WritesOut mid.terminal had has new.terminal → new ≡ record mid { terminal = new.terminal }
     → new.standing ≡ old.standing
@@ -56,7 +56,7 @@ turn_written (Ok n) had has enough old mid new turned written rest same goes = r
 }
 
 -- both, one after the other
-pub rounds : {N : Type 0} (answer : Result Next WatchFault) (queue : Queue)
+pub rounds : {N : Type 0} (answer : Result WatchNext WatchFault) (queue : Queue)
     (had between has : Option (List ℕ)) (enough : Option ℕ) (old mid new : Watched N)
     → IfOk answer (λ n. WritesTurn between has enough mid n new) → DoesWaiting queue had between old mid
     → IfOk answer (λ n. Rounds queue had has enough old n new)

@@ -12,15 +12,15 @@ use Rattle.rt_lines.specs.Typing.{typed_of_bytes}
 use Rattle.rt_lines.specs.declared.error.LineError.{LineError}
 use Rattle.rt_lines.specs.declared.error.Refusal.TheVariants.{Push, Tree}
 use Rattle.rt_lines.specs.declared.order.Order.{Order}
-use Rattle.rt_lines.specs.declared.typed.Typed.{Typed}
-use Rattle.rt_lines.specs.declared.typed.Typed.TheVariants as typed
+use Rattle.rt_lines.specs.declared.order.Typed.{Typed}
+use Rattle.rt_lines.specs.declared.order.Typed.TheVariants as typed
 use Rattle.rt_lines.specs.inside.Appending.{Appends}
 use Rattle.rt_link.specs.Pushing.{IsPushKey}
 use Rattle.rt_connect.specs.Doing.{Obeys, Seats}
 use Rattle.rt_watch.specs.Asking.{Asks, AsksPush, HasNone, is_good_asked}
 use Rattle.rt_watch.specs.Watching.{DoesLine, PrintsDone, Pushes, is_good}
-use Rattle.rt_watch.specs.declared.asking.Asked.{Asked}
-use Rattle.rt_watch.specs.declared.asking.Asked.TheVariants as asked
+use Rattle.rt_watch.specs.declared.effect.AskedLine.{AskedLine}
+use Rattle.rt_watch.specs.declared.effect.AskedLine.TheVariants as asked
 use Rattle.rt_watch.specs.declared.fault.WatchFault.{WatchFault}
 use Rattle.rt_watch.proofs.Faulting.{after_input_writes, of_link_writes, still}
 
@@ -33,7 +33,7 @@ pub none_path : (why : TreeError) → HasNone (asked.Refused (Tree why))
 none_path why = inr (why, refl)
 
 -- so a write below a path has none
-pub asks_none : (answer : Result Asked WatchFault) (seat : ℕ) (path : Path) (tree : PathTree)
+pub asks_none : (answer : Result AskedLine WatchFault) (seat : ℕ) (path : Path) (tree : PathTree)
     → IfOk answer HasNone → IfOk answer (λ a. AsksPush seat path tree a)
 asks_none (Err e) seat path tree h = tt
 asks_none (Ok a) seat path tree h = inr h
@@ -47,20 +47,20 @@ pub asks_id : (seat : ℕ) (path at : Path) (tree : PathTree) (id : List ℕ) �
     → AsksPush seat path tree (asked.Push id seat at tree)
 asks_id seat path at tree id key is = inl (id, key, ap (λ p. asked.Push id seat p tree) is)
 
-is_good_push : (seat : ℕ) (path : Path) (tree : PathTree) (a : Asked) → AsksPush seat path tree a
+is_good_push : (seat : ℕ) (path : Path) (tree : PathTree) (a : AskedLine) → AsksPush seat path tree a
     → is_good_asked a ≡ true
 is_good_push seat path tree a (inl h) = ap is_good_asked h.2
 is_good_push seat path tree a (inr (inl h)) = ap is_good_asked h.1
 is_good_push seat path tree a (inr (inr h)) = ap is_good_asked h.1
 
 -- a line asks for such a write
-pub push_asks : (answer : Result Asked WatchFault) (read : Result Typed LineError) (seat : ℕ) (path : Path)
+pub push_asks : (answer : Result AskedLine WatchFault) (read : Result Typed LineError) (seat : ℕ) (path : Path)
     (tree : PathTree) → read ≡ Ok (typed.Push seat path tree)
     → IfOk answer (λ a. AsksPush seat path tree a) → IfOk answer (λ a. Asks read a)
 push_asks (Err e) read seat path tree is asks = tt
 push_asks (Ok a) read seat path tree is asks = subst (λ r. Asks r a) (sym is) asks
 
-pub push_good : (answer : Result Asked WatchFault) (read : Result Typed LineError) (seat : ℕ) (path : Path)
+pub push_good : (answer : Result AskedLine WatchFault) (read : Result Typed LineError) (seat : ℕ) (path : Path)
     (tree : PathTree) → read ≡ Ok (typed.Push seat path tree)
     → IfOk answer (λ a. AsksPush seat path tree a) → IfOk answer (λ a. is_good read ≡ is_good_asked a)
 push_good (Err e) read seat path tree is asks = tt
@@ -79,7 +79,7 @@ pushes (Ok v) id o old new seats left a b c first h = (
 )
 
 -- what a line asks for is done by some client
-pub asks_done : (bytes : List ℕ) (number : ℕ) (seats left : Seats) (a b : String Global) (asks : Asked)
+pub asks_done : (bytes : List ℕ) (number : ℕ) (seats left : Seats) (a b : String Global) (asks : AskedLine)
     (old new : Locked) → Asks (typed_of_bytes bytes) asks
     → ((text : List ℕ) × Appends a b text × DoesLine asks number old seats text new left)
     → (text : List ℕ) × Appends a b text × PrintsDone bytes number seats text left

@@ -1,6 +1,6 @@
 -- Why a run ends early.
 use Rattle.std.specs.Prelude.{◌≡◌, ◌≢◌, ◌+◌, ℕ, List, codes, Option, None, Some, Result, Ok, Err}
-use Rattle.rt_input.specs.declared.error.ConsoleError.TheVariants as console
+use Rattle.rt_input.specs.declared.fault.ConsoleError.TheVariants as console
 use Rattle.rt_link.specs.declared.error.LinkFault.{LinkFault}
 use Rattle.rt_link.specs.declared.error.LinkFault.TheVariants as link
 use Rattle.rt_watch.specs.declared.lines.End.{End}

@@ -11,13 +11,13 @@ use Rattle.rt_socket.specs.declared.lost.Lost.{Lost}
 use Rattle.rt_socket.specs.declared.lost.Lost.TheVariants as why
 use Rattle.rt_watch.specs.declared.watched.Left.{Left}
 use Rattle.rt_watch.specs.declared.watched.Left.TheVariants as left
-use Rattle.rt_watch.specs.declared.pace.Next.{Next}
-use Rattle.rt_watch.specs.declared.pace.Next.TheVariants.{Sleep, End}
+use Rattle.rt_watch.specs.declared.terminal.WatchNext.{WatchNext}
+use Rattle.rt_watch.specs.declared.terminal.WatchNext.TheVariants.{Sleep, End}
 
 -- what a run does next that did all that it could: its connection waits for so long, none where there is
 -- none; its input has ended or not; nothing was printed for so many milliseconds, of which so many are
 -- enough, none where none are
-abbrev pub next : Option ℕ → Bool → ℕ → Option ℕ → Next
+abbrev pub next : Option ℕ → Bool → ℕ → Option ℕ → WatchNext
 next None true quiet enough = End
 next None false quiet enough = Sleep (2 ^ 64 - 1)
 next (Some most) false quiet enough = Sleep most

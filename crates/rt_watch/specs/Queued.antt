@@ -2,8 +2,8 @@
 use Rattle.std.specs.Prelude.{ℕ, ◌+◌, ◌&&◌, ◌||◌, nat_lt, length, if◌then◌else◌, Bool, false}
 use Rattle.std.specs.Prelude.{List, [], ◌∷◌, ◌++◌, Option, None, Result, Ok, Err}
 use Rattle.std.specs.Global.{Vec}
-use Rattle.rt_input.specs.declared.error.ConsoleError.{ConsoleError}
-use Rattle.rt_input.specs.declared.error.ConsoleError.TheVariants as console
+use Rattle.rt_input.specs.declared.fault.ConsoleError.{ConsoleError}
+use Rattle.rt_input.specs.declared.fault.ConsoleError.TheVariants as console
 use Rattle.rt_watch.specs.declared.lines.End.{End}
 use Rattle.rt_watch.specs.declared.lines.End.TheVariants as end
 use Rattle.rt_watch.specs.declared.lines.TheConstants.{MOST_BYTES, MOST_LINES}

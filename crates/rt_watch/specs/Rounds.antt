@@ -3,7 +3,7 @@ use Rattle.std.specs.Prelude.{◌≡◌, ◌≢◌, ◌⊎◌, ◌++◌, ℕ, Li
 use Rattle.std.specs.Prelude.{Option, Some, None, Result, Ok, string_bytes}
 use Rattle.std.specs.Io.KnownBytes.{Appends as Writes}
 use Rattle.std.specs.declared.net.socket_addr.SocketAddr.{SocketAddr}
-use Rattle.rt_input.specs.declared.error.ConsoleError.TheVariants.{NoMemory}
+use Rattle.rt_input.specs.declared.fault.ConsoleError.TheVariants.{NoMemory}
 use Rattle.rt_lines.specs.inside.Appending.{Appends}
 use Rattle.rt_connect.specs.Doing.{disconnected}
 use Rattle.rt_link.specs.Carrying.{Carried, PassesOver, Turns, is_open}
@@ -14,13 +14,13 @@ use Rattle.rt_watch.specs.Queued.{Queue}
 use Rattle.rt_watch.specs.Watching.{PrintsLines, PrintsNews, bad_with, numbered}
 use Rattle.rt_watch.specs.declared.fault.WatchFault.{WatchFault}
 use Rattle.rt_watch.specs.declared.fault.WatchFault.TheVariants.{NotConnected, Ended}
-use Rattle.rt_watch.specs.declared.pace.Next.{Next}
-use Rattle.rt_watch.specs.declared.pace.Next.TheVariants.{GoOn}
+use Rattle.rt_watch.specs.declared.terminal.WatchNext.{WatchNext}
+use Rattle.rt_watch.specs.declared.terminal.WatchNext.TheVariants.{GoOn}
 use Rattle.rt_watch.specs.declared.terminal.Terminal.{Terminal}
 use Rattle.rt_watch.specs.declared.watched.Left.{Left}
 use Rattle.rt_watch.specs.declared.watched.Left.TheVariants as left
-use Rattle.rt_watch.specs.declared.watched.Standing.{Standing}
-use Rattle.rt_watch.specs.declared.watched.Standing.TheVariants.{Opening, Open, Waiting, Again, Gone}
+use Rattle.rt_watch.specs.declared.watched.LinkStanding.{LinkStanding}
+use Rattle.rt_watch.specs.declared.watched.LinkStanding.TheVariants.{Opening, Open, Waiting, Again, Gone}
 use Rattle.rt_watch.specs.declared.watched.Watched.{Watched}
 
 -- ---- lines
@@ -38,11 +38,11 @@ pub record DoesLines (queue : Queue) (old new : Terminal) : Type 0 where
 -- ---- a turn of the connection
 
 -- a connection that stands has come about
-abbrev pub opened : Bool → Standing → Standing
+abbrev pub opened : Bool → LinkStanding → LinkStanding
 opened stands was = if stands then Open else was
 
 -- whether there is a connection, or one is begun
-abbrev pub is_carried : Standing → Bool
+abbrev pub is_carried : LinkStanding → Bool
 is_carried Opening = true
 is_carried Open = true
 is_carried Waiting = false
@@ -50,21 +50,21 @@ is_carried Again = true
 is_carried Gone = false
 
 -- where a run stands whose connection is gone: another one is to come, but where there is to be one alone
-abbrev pub lost_by : Bool → Standing
+abbrev pub lost_by : Bool → LinkStanding
 lost_by is_once = if is_once then Gone else Waiting
 
 -- what is printed then: nothing where another one did not come about either
-abbrev pub said_lost : Standing → List ℕ
+abbrev pub said_lost : LinkStanding → List ℕ
 said_lost Again = []
 said_lost standing = disconnected
 
 -- the connection is gone, which is printed
-abbrev pub IsLost : Bool → ℕ → Standing → ℕ → Standing → List ℕ → Type 0
+abbrev pub IsLost : Bool → ℕ → LinkStanding → ℕ → LinkStanding → List ℕ → Type 0
 IsLost is_once waits old new_waits new text =
     (new_waits ≡ waits) × (new ≡ lost_by is_once) × (text ≡ said_lost old)
 
 -- what a turn leaves: for how long it is waited, or the connection is gone
-abbrev pub IsNoted : Left → Bool → ℕ → Standing → ℕ → Standing → List ℕ → Type 0
+abbrev pub IsNoted : Left → Bool → ℕ → LinkStanding → ℕ → LinkStanding → List ℕ → Type 0
 IsNoted (left.Waits most) is_once waits old new_waits new text =
     (new_waits ≡ most) × (new ≡ old) × (text ≡ [])
 IsNoted (left.Unreached why) is_once waits old new_waits new text =
@@ -129,7 +129,7 @@ pub record IsTurned {N : Type 0} (old new : Watched N) : Type 0 where
   pub turned : is_carried old.standing ≡ true → TakesTurn old new
 
 -- for how long a connection is waited for, or for the next one while lines come; not where there is none
-abbrev pub waited : Standing → Bool → ℕ → Option ℕ
+abbrev pub waited : LinkStanding → Bool → ℕ → Option ℕ
 waited Opening has_ended waits = Some waits
 waited Open has_ended waits = Some waits
 waited Waiting has_ended waits = if has_ended then None else Some waits
@@ -137,7 +137,7 @@ waited Again has_ended waits = Some waits
 waited Gone has_ended waits = None
 
 -- the run goes on at once where the connection has come about or is gone now, and else by what is waited for
-abbrev pub IsNext : {N : Type 0} → Standing → Watched N → ℕ → Option ℕ → Next → Type 0
+abbrev pub IsNext : {N : Type 0} → LinkStanding → Watched N → ℕ → Option ℕ → WatchNext → Type 0
 IsNext was now quiet enough n =
     (now.standing ≢ was → n ≡ GoOn)
     × (now.standing ≡ was → n ≡ next (waited now.standing now.terminal.has_ended now.waits)
@@ -145,7 +145,7 @@ IsNext was now quiet enough n =
 
 -- the connection is carried on, and what is printed of it is written
 pub record WritesTurn {N : Type 0} (had has : Option (List ℕ)) (enough : Option ℕ) (old : Watched N)
-    (n : Next) (new : Watched N) : Type 0 where
+    (n : WatchNext) (new : Watched N) : Type 0 where
   pub mid : Watched N
   pub turned : IsTurned old mid
   pub written : WritesOut mid.terminal had has new.terminal
@@ -155,7 +155,7 @@ pub record WritesTurn {N : Type 0} (had has : Option (List ℕ)) (enough : Optio
 
 -- both, one after the other
 pub record Rounds {N : Type 0} (queue : Queue) (had has : Option (List ℕ)) (enough : Option ℕ)
-    (old : Watched N) (n : Next) (new : Watched N) : Type 0 where
+    (old : Watched N) (n : WatchNext) (new : Watched N) : Type 0 where
   pub mid : Watched N
   pub between : Option (List ℕ)
   pub waiting : DoesWaiting queue had between old mid

@@ -16,19 +16,19 @@ use Rattle.rt_lines.specs.declared.error.LineError.TheVariants as line
 use Rattle.rt_lines.specs.declared.error.Refusal.TheVariants.{Core, Wire}
 use Rattle.rt_lines.specs.declared.order.Order.{Order}
 use Rattle.rt_lines.specs.declared.order.Order.TheVariants as order
-use Rattle.rt_lines.specs.declared.typed.Typed.{Typed}
-use Rattle.rt_lines.specs.declared.typed.Typed.TheVariants as typed
+use Rattle.rt_lines.specs.declared.order.Typed.{Typed}
+use Rattle.rt_lines.specs.declared.order.Typed.TheVariants as typed
 use Rattle.rt_connect.specs.Doing.{Obeys, Seats}
 use Rattle.rt_connect.specs.Printing as client
 use Rattle.rt_connect.specs.Run.{one_more}
 use Rattle.rt_connect.specs.Telling.{TellsAll}
-use Rattle.rt_link.specs.declared.taking.Passed.{Passed}
-use Rattle.rt_link.specs.declared.taking.Passed.TheVariants as passed
+use Rattle.rt_link.specs.declared.turn.Passed.{Passed}
+use Rattle.rt_link.specs.declared.turn.Passed.TheVariants as passed
 use Rattle.rt_watch.specs.Asking.{Asks, is_done}
-use Rattle.rt_watch.specs.declared.asking.Asked.{Asked}
-use Rattle.rt_watch.specs.declared.asking.Asked.TheVariants as asked
+use Rattle.rt_watch.specs.declared.effect.AskedLine.{AskedLine}
+use Rattle.rt_watch.specs.declared.effect.AskedLine.TheVariants as asked
 use Rattle.rt_wire.specs.declared.request.Action.TheVariants.{Put}
-use Rattle.rt_world.specs.declared.call.Call.TheVariants.{Write}
+use Rattle.rt_world.specs.declared.step.Call.TheVariants.{Write}
 
 -- ---- lines
 
@@ -82,7 +82,7 @@ Pushes id o old seats text new left =
     (says : List ℕ) × Obeys o old seats says new left × (text ≡ id_line id ++ says)
 
 -- what the line of that number does that asks for this
-abbrev pub DoesAsked : Asked → ℕ → Locked → Seats → List ℕ → Locked → Seats → Type 0
+abbrev pub DoesAsked : AskedLine → ℕ → Locked → Seats → List ℕ → Locked → Seats → Type 0
 DoesAsked (asked.Order o) number old seats text new left =
     DoesOrder (is_done o) o number old seats text new left
 DoesAsked (asked.View listener) number old seats text new left =
@@ -94,7 +94,7 @@ DoesAsked (asked.Refused why) number old seats text new left =
 DoesAsked asked.Bad number old seats text new left = Prints (bad_line number) old seats text new left
 
 -- what a line asks for is done, and the seats are told what waits for them then
-pub record DoesLine (asks : Asked) (number : ℕ) (old : Locked) (seats : Seats) (text : List ℕ)
+pub record DoesLine (asks : AskedLine) (number : ℕ) (old : Locked) (seats : Seats) (text : List ℕ)
     (new : Locked) (left : Seats) : Type 0 where
   pub says : List ℕ
   pub tells : List ℕ
@@ -108,7 +108,7 @@ pub record DoesLine (asks : Asked) (number : ℕ) (old : Locked) (seats : Seats)
 -- a line that isn't empty is done by some client: of what a lock holds nothing is known beforehand
 abbrev pub PrintsDone : List ℕ → ℕ → Seats → List ℕ → Seats → Type 0
 PrintsDone bytes number seats text left =
-    (asks : Asked) × Asks (typed_of_bytes bytes) asks
+    (asks : AskedLine) × Asks (typed_of_bytes bytes) asks
     × ((old new : Locked) × DoesLine asks number old seats text new left)
 
 -- an empty one does nothing

@@ -1,6 +1,6 @@
 // Why a run ends early.
 ghost use Rattle.std.specs.Prelude.{◌≡◌};
-ghost use Rattle.rt_input.specs.declared.error.ConsoleError.TheVariants.{NoMemory};
+ghost use Rattle.rt_input.specs.declared.fault.ConsoleError.TheVariants.{NoMemory};
 ghost use Rattle.rt_watch.specs.Faults.{after_input, fault_code, fault_name, of_link};
 ghost use Rattle.rt_watch.specs.declared.fault.WatchFault.TheVariants.{System, Ended};
 

@@ -11,12 +11,9 @@
 //! `rt_connect`'s, and what calls do is `rt_client`'s.
 #![tactic(auto)]
 
-mod asking;
-mod doing;
+mod effect;
 mod fault;
 mod lines;
-mod pace;
-mod reading;
 mod terminal;
 mod watched;
 

@@ -1,8 +1,12 @@
 // The lines that wait between the thread that reads them and the one that does them.
-ghost use Rattle.std.specs.Prelude.{◌≡◌, map, not, false, true, Ok, IfOk, OnErr, OnOk};
+ghost use Rattle.std.specs.Prelude.{◌≡◌, map, not, false, true, Ok, IfOk, OnErr, OnOk, ◌+◌, ◌<◌, ◌≤◌, ◌^◌};
+ghost use Rattle.std.specs.Prelude.{IfErr};
 ghost use Rattle.std.specs.Sync.Mutex.{mutex_guard_value};
 ghost use Rattle.rt_watch.specs.Queued.{empty_queue, has_room, is_open, items_of, taken_out, with_line};
+ghost use Rattle.rt_watch.specs.Queued.{end_of};
+ghost use Rattle.rt_input.specs.Lines.{TellsOfReads};
 
+use rt_input::{ConsoleError, LineReader, Source};
 use rt_link::Bell;
 use std::alloc::{AllocError, Global};
 use std::collections::VecDeque;
@@ -51,7 +55,7 @@ impl Model for Queue {
 
 // What is taken of them in one go.
 #[derive(Drop)]
-pub(crate) struct Taken {
+pub(crate) struct TakenLine {
     pub(crate) lines: VecDeque<Vec<u8>>,
     pub(crate) end: Option<End>,
 }
@@ -108,7 +112,7 @@ impl Queue {
     }
 
     // All that waits is taken, and how the input has ended, if it has.
-    fn take(&mut self, alloc: Global) -> Taken
+    fn take(&mut self, alloc: Global) -> TakenLine
         ensures lines { map items_of result.lines.items ≡ self.old.lines }
         ensures end { result.end ≡ self.old.ended }
         ensures left { self.new ≡ taken_out self.old }
@@ -116,7 +120,7 @@ impl Queue {
         let lines = std::mem::replace(&mut self.lines, VecDeque::new(alloc));
         self.bytes = 0;
         let end = self.end.take();
-        Taken { lines, end }
+        TakenLine { lines, end }
     }
 }
 
@@ -161,7 +165,7 @@ impl Lines {
     }
 
     // All that waits there is taken, and the lock let go.
-    pub(crate) fn take(&self, queue: MutexGuard<'_, Queue>) -> Taken
+    pub(crate) fn take(&self, queue: MutexGuard<'_, Queue>) -> TakenLine
         ensures lines { map items_of result.lines.items ≡ (mutex_guard_value queue.entry).lines }
         ensures end { result.end ≡ (mutex_guard_value queue.entry).ended }
     {
@@ -177,4 +181,63 @@ impl Lines {
         self.queue.lock(rt).is_left = true;
         self.room.notify_all();
     }
+}
+
+// ---- the thread that reads lines
+
+// A copy of a line.
+fn copy(alloc: Global, line: &[u8]) -> Result<Vec<u8>, AllocError>
+    ensures { IfOk result (λ bytes. bytes.items ≡ line.now) }
+{
+    let mut bytes = Vec::with_capacity(alloc, line.len())?;
+    bytes.extend_from_slice(line)?;
+    Ok(bytes)
+}
+
+// Reads lines to the end of the input, or as long as somebody takes them.
+#[tactic(auto, using(crate::proofs::Telling::tells_of_all))]
+fn read_all<R: Wait, I: Source>(
+    rt: &R,
+    alloc: Global,
+    reader: &mut I,
+    lines: &Lines,
+) -> Result<(), ConsoleError>
+    requires bytes { I.given reader.old ≤ 2 ^ 63 }
+    requires reads { I.failures reader.old + 1 < 2 ^ 64 }
+    ensures ok { OnOk result (I.failures reader.new ≡ I.failures reader.old) }
+    ensures fault { IfErr result (λ e. TellsOfReads e 0 (I.given reader.old) (I.given reader.new)
+        (I.failures reader.old) (I.failures reader.new)) }
+{
+    let mut read = LineReader::new(alloc)?;
+    for _ in rt.forever() {
+        if !read.next(reader)? {
+            return Ok(());
+        }
+        if !lines.put(rt, copy(alloc, read.line())?)? {
+            return Ok(());
+        }
+    }
+    unreachable!()
+}
+
+// How an input has ended that was read so.
+fn end_of(read: Result<(), ConsoleError>) -> End
+    ensures { result ≡ end_of read }
+{
+    match read {
+        Ok(()) => End::Read,
+        Err(ConsoleError::NoMemory) => End::NoMemory,
+        Err(ConsoleError::ReadFault | ConsoleError::WriteFault | ConsoleError::BadWords) => {
+            End::Unread
+        }
+    }
+}
+
+// Reads lines, says how the input has ended, and gives the reader back.
+pub(crate) fn feed<R: Wait, I: Source>(rt: &R, alloc: Global, mut reader: I, lines: &Lines) -> I
+    requires bytes { I.given reader ≤ 2 ^ 63 }
+    requires reads { I.failures reader + 1 < 2 ^ 64 }
+{
+    lines.end(rt, end_of(read_all(rt, alloc, &mut reader, lines)));
+    reader
 }

@@ -1,8 +1,7 @@
 // What is typed and printed: lines are done on a linked client and its seats, and what becomes of them and of
 // the server's messages is printed.
-ghost use Rattle.std.specs.Prelude.{◌≡◌, ◌+◌, ◌<◌, ◌^◌, ℕ, List, [], if◌then◌else◌, map, string_bytes};
-ghost use Rattle.std.specs.Prelude.{true, is_some, IfOk, IfErr, OnOk};
-ghost use Rattle.std.specs.Io.KnownBytes as Io;
+ghost use Rattle.std.specs.Prelude.{◌≡◌, ◌+◌, ◌<◌, ◌^◌, ℕ, List, [], if◌then◌else◌, map, string_bytes, true};
+ghost use Rattle.std.specs.Prelude.{is_some, IfOk, IfErr, OnOk};
 ghost use Rattle.std.specs.Sync.Mutex.{mutex_guard_value};
 ghost use Rattle.rt_lines.specs.Typing.{typed_of_bytes};
 ghost use Rattle.rt_lines.specs.inside.Appending.{Appends};
@@ -13,11 +12,12 @@ ghost use Rattle.rt_watch.specs.Queued.{items_of};
 ghost use Rattle.rt_watch.specs.Rounds.{DoesLines};
 ghost use Rattle.rt_watch.specs.Watching.{PrintsDone, PrintsLine, PrintsLines, PrintsNews, bad_with, counted};
 ghost use Rattle.rt_watch.specs.Watching.{is_good, is_good_line, numbered};
+ghost use Rattle.rt_watch.specs.Pacing.{next};
+ghost use Rattle.std.specs.Io.KnownBytes as Io;
 
-use crate::asking::asked_of;
-use crate::doing::{do_line, tell_news, write_lost};
+use crate::effect::{asked_of, do_line, tell_news, write_lost};
 use crate::fault::{WatchFault, after_input};
-use crate::lines::{End, Lines, Queue, Taken};
+use crate::lines::{End, Lines, Queue, TakenLine};
 use rt_connect::Seats;
 use rt_input::{Drain, Log, write_printed};
 use rt_lines::{WATCH_LINES, say_line};
@@ -184,7 +184,7 @@ impl Terminal {
         ensures fault { IfErr result IsNoWriteFault }
         ensures done { OnOk result (DoesLines (mutex_guard_value queue.entry) self.old self.new) }
     {
-        let Taken { lines, end } = lines.take(queue);
+        let TakenLine { lines, end } = lines.take(queue);
         if !lines.is_empty() || end.is_some() {
             self.quiet_since = Instant::now(rt)?;
         }
@@ -259,5 +259,43 @@ impl Terminal {
         }
         write_printed(&mut self.printed, writer)?;
         Ok(())
+    }
+}
+
+// ---- when a run waits, and when it ends
+
+// What a run does next.
+#[derive(Clone, Copy, Debug, PartialEq, Eq)]
+pub(crate) enum WatchNext {
+    // It goes on at once.
+    GoOn,
+    // It sleeps, so many milliseconds at most.
+    Sleep(u64),
+    // It has ended.
+    End,
+}
+
+// What a run does next that did all that it could: it waits for the connection so long, none where there is
+// none; its input has ended or not; and nothing was printed for so many milliseconds, of which so many are
+// enough.
+pub(crate) fn next_of(
+    connection: Option<u64>,
+    has_ended: bool,
+    quiet: u64,
+    enough: Option<u64>,
+) -> WatchNext
+    ensures { result ≡ next connection has_ended quiet enough }
+{
+    match (connection, has_ended, enough) {
+        (None, true, _) => WatchNext::End,
+        (None, false, _) => WatchNext::Sleep(u64::MAX),
+        (Some(most), false, _) | (Some(most), true, None) => WatchNext::Sleep(most),
+        (Some(most), true, Some(enough)) => {
+            if enough <= quiet {
+                WatchNext::End
+            } else {
+                WatchNext::Sleep(most.min(enough - quiet))
+            }
+        }
     }
 }

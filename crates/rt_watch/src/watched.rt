@@ -11,10 +11,8 @@ ghost use Rattle.rt_watch.specs.Rounds.{WritesTurn, is_carried, lost_by, said_lo
 ghost use Rattle.rt_watch.specs.Watching.{PrintsNews};
 
 use crate::fault::WatchFault;
-use crate::lines::{Lines, Queue};
-use crate::pace::{Next, next_of};
-use crate::reading::feed;
-use crate::terminal::Terminal;
+use crate::lines::{Lines, Queue, feed};
+use crate::terminal::{Terminal, WatchNext, next_of};
 use mio::net::TcpStream;
 use rt_client::{Client, Seat};
 use rt_connect::open_seats;
@@ -59,7 +57,7 @@ the lines go on, and it connects again: in a second, and then less and less ofte
 
 // Where the connection stands.
 #[derive(Clone, Copy, Debug, PartialEq, Eq)]
-enum Standing {
+enum LinkStanding {
     // Its handshake is not done.
     Opening,
     // It stands.
@@ -78,7 +76,7 @@ struct Watched<N: RandomSource + Drop> {
     address: SocketAddr,
     terminal: Terminal,
     connection: Connection<TcpStream, N>,
-    standing: Standing,
+    standing: LinkStanding,
     // What the connection waits for next.
     waits: u64,
     is_once: bool,
@@ -147,45 +145,46 @@ fn left_by(turn: Turn) -> Left
 }
 
 // For how long a connection is waited for, or for the next one while lines come; not where there is none.
-fn waited(standing: Standing, has_ended: bool, waits: u64) -> Option<u64>
+fn waited(standing: LinkStanding, has_ended: bool, waits: u64) -> Option<u64>
     ensures { result ≡ waited standing has_ended waits }
 {
     match standing {
-        Standing::Opening | Standing::Open | Standing::Again => Some(waits),
-        Standing::Waiting if has_ended => None,
-        Standing::Waiting => Some(waits),
-        Standing::Gone => None,
+        LinkStanding::Opening | LinkStanding::Open | LinkStanding::Again => Some(waits),
+        LinkStanding::Waiting if has_ended => None,
+        LinkStanding::Waiting => Some(waits),
+        LinkStanding::Gone => None,
     }
 }
 
 // Where a run stands whose connection is gone.
-fn standing_lost(is_once: bool) -> Standing
+fn standing_lost(is_once: bool) -> LinkStanding
     ensures { result ≡ lost_by is_once }
 {
     if is_once {
-        Standing::Gone
+        LinkStanding::Gone
     } else {
-        Standing::Waiting
+        LinkStanding::Waiting
     }
 }
 
 // Whether it is printed that the connection is gone: not where another one did not come about either.
-fn is_news(standing: Standing) -> bool
+fn is_news(standing: LinkStanding) -> bool
     ensures { (if result then disconnected else []) ≡ said_lost standing }
 {
     match standing {
-        Standing::Opening | Standing::Open | Standing::Waiting | Standing::Gone => true,
-        Standing::Again => false,
+        LinkStanding::Opening | LinkStanding::Open | LinkStanding::Waiting | LinkStanding::Gone =>
+            true,
+        LinkStanding::Again => false,
     }
 }
 
 // Whether there is a connection, or one is begun.
-fn is_carried(standing: Standing) -> bool
+fn is_carried(standing: LinkStanding) -> bool
     ensures { result ≡ is_carried standing }
 {
     match standing {
-        Standing::Opening | Standing::Open | Standing::Again => true,
-        Standing::Waiting | Standing::Gone => false,
+        LinkStanding::Opening | LinkStanding::Open | LinkStanding::Again => true,
+        LinkStanding::Waiting | LinkStanding::Gone => false,
     }
 }
 
@@ -212,9 +211,9 @@ impl<N: RandomSource + Drop> Watched<N> {
     // Tells that the connection stands, where it did not stand before.
     fn greet<L: Log>(&self, log: &mut L) {
         match self.standing {
-            Standing::Opening => log.tell(CONNECTED),
-            Standing::Again => log.tell(CONNECTED_AGAIN),
-            Standing::Open | Standing::Waiting | Standing::Gone => {}
+            LinkStanding::Opening => log.tell(CONNECTED),
+            LinkStanding::Again => log.tell(CONNECTED_AGAIN),
+            LinkStanding::Open | LinkStanding::Waiting | LinkStanding::Gone => {}
         }
     }
 
@@ -269,7 +268,7 @@ impl<N: RandomSource + Drop> Watched<N> {
     {
         if self.connection.is_open() {
             self.greet(log);
-            self.standing = Standing::Open;
+            self.standing = LinkStanding::Open;
         }
         if let Err(why) = self.tell_news(rt, linked) {
             drop(turn);
@@ -298,7 +297,7 @@ impl<N: RandomSource + Drop> Watched<N> {
                 self.waits = most;
                 Ok(())
             }
-            Left::Unreached(why) if self.standing == Standing::Opening => {
+            Left::Unreached(why) if self.standing == LinkStanding::Opening => {
                 Err(WatchFault::NotConnected {
                     address: self.address,
                     why,
@@ -331,7 +330,7 @@ impl<N: RandomSource + Drop> Watched<N> {
         ensures done { OnOk result (DoesWaiting (mutex_guard_value queue.entry) (D.contents writer.old)
             (D.contents writer.new) self.old self.new) }
     {
-        if self.standing == Standing::Opening {
+        if self.standing == LinkStanding::Opening {
             return Ok(());
         }
         let done = self.terminal.do_lines(rt, linked, lines, queue, log);
@@ -341,7 +340,7 @@ impl<N: RandomSource + Drop> Watched<N> {
 
     // What the run does next, which has done all that it could.
     #[tactic(auto, using(crate::proofs::Faulting::faults))]
-    fn next<R: Clock>(&self, rt: &R, enough: Option<u64>) -> Result<Next, WatchFault>
+    fn next<R: Clock>(&self, rt: &R, enough: Option<u64>) -> Result<WatchNext, WatchFault>
         ensures fault { IfErr result IsNoWriteFault }
         ensures next { IfOk result (λ n. (quiet : ℕ)
             × (n ≡ next (waited self.now.standing self.now.terminal.has_ended self.now.waits)
@@ -361,7 +360,7 @@ impl<N: RandomSource + Drop> Watched<N> {
         enough: Option<u64>,
         writer: &mut D,
         log: &mut L,
-    ) -> Result<Next, WatchFault>
+    ) -> Result<WatchNext, WatchFault>
         requires { D.failures writer.old + 1 < 2 ^ 64 }
         ensures ok { OnOk result (D.failures writer.new ≡ D.failures writer.old) }
         ensures fault { IfErr result (λ e. TellsWrite e (D.failures writer.old) (D.failures writer.new)) }
@@ -373,7 +372,7 @@ impl<N: RandomSource + Drop> Watched<N> {
         self.terminal.write_out(rt, writer)?;
         turned?;
         if self.standing != was {
-            return Ok(Next::GoOn);
+            return Ok(WatchNext::GoOn);
         }
         self.next(rt, enough)
     }
@@ -389,7 +388,7 @@ impl<N: RandomSource + Drop> Watched<N> {
         enough: Option<u64>,
         writer: &mut D,
         log: &mut L,
-    ) -> Result<Next, WatchFault>
+    ) -> Result<WatchNext, WatchFault>
         requires { D.failures writer.old + 1 < 2 ^ 64 }
         ensures ok { OnOk result (D.failures writer.new ≡ D.failures writer.old) }
         ensures fault { IfErr result (λ e. TellsWrite e (D.failures writer.old) (D.failures writer.new)) }
@@ -444,7 +443,7 @@ impl<R: Net + Wait + Clock + RandomSource + Clone + Drop> Watched<R> {
         match link.connect(rt, alloc, rt.clone()?, self.address)? {
             Ok(connection) => {
                 self.connection = connection;
-                self.standing = Standing::Again;
+                self.standing = LinkStanding::Again;
             }
             Err(why) => drop(why),
         }
@@ -456,7 +455,7 @@ impl<R: Net + Wait + Clock + RandomSource + Clone + Drop> Watched<R> {
     fn connect_again(&mut self, rt: &R, alloc: Global, link: &mut Link) -> Result<(), WatchFault>
         ensures fault { IfErr result IsNoWriteFault }
     {
-        if self.standing != Standing::Waiting || self.terminal.has_ended {
+        if self.standing != LinkStanding::Waiting || self.terminal.has_ended {
             return Ok(());
         }
         let lost = self.lost_since(rt)?;
@@ -489,9 +488,9 @@ impl<R: Net + Wait + Clock + RandomSource + Clone + Drop> Watched<R> {
             self.connect_again(rt, alloc, link)?;
             let queue = lines.lock(rt);
             match self.round(rt, linked, lines, queue, enough, writer, log)? {
-                Next::GoOn => {}
-                Next::Sleep(most) => link.wait(Duration::from_millis(most))?,
-                Next::End => return Ok(()),
+                WatchNext::GoOn => {}
+                WatchNext::Sleep(most) => link.wait(Duration::from_millis(most))?,
+                WatchNext::End => return Ok(()),
             }
         }
         unreachable!()
@@ -558,7 +557,7 @@ fn begin<R: Net + Clock + RandomSource + Clone + Drop>(
             address,
             terminal,
             connection,
-            standing: Standing::Opening,
+            standing: LinkStanding::Opening,
             waits: 0,
             is_once: watching.is_once,
             begun,

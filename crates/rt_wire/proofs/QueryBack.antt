@@ -19,8 +19,8 @@ use Rattle.rt_order.specs.declared.cut.Place.{Place}
 use Rattle.rt_order.specs.declared.cut.Place.TheVariants.{Min, Before, After, Max}
 use Rattle.rt_order.specs.declared.cut.Cut.{Cut}
 use Rattle.rt_order.specs.declared.cut.Range.{Range}
-use Rattle.rt_query.specs.declared.limit.Limit.{Limit}
-use Rattle.rt_query.specs.declared.limit.Limit.TheVariants.{First, Last}
+use Rattle.rt_query.specs.declared.query.Limit.{Limit}
+use Rattle.rt_query.specs.declared.query.Limit.TheVariants.{First, Last}
 use Rattle.rt_query.specs.Queries.{Query, is_filtered, most_rows}
 use Rattle.rt_wire.specs.Fields.{path_of_text}
 use Rattle.rt_wire.specs.QueryFields.{index_of_text, index_of, whole_of, text_mark_of, mark_of, key_of, side_of, cut_at, cut_of_items}

@@ -4,7 +4,7 @@ use Rattle.std.specs.Prelude.{codes, if◌then◌else◌}
 use Rattle.serde_json.specs.Data.{Data, no_members}
 use Rattle.rt_order.specs.declared.index.Index.{Index}
 use Rattle.rt_order.specs.declared.cut.Cut.{Cut}
-use Rattle.rt_query.specs.declared.limit.Limit.{Limit}
+use Rattle.rt_query.specs.declared.query.Limit.{Limit}
 use Rattle.rt_wire.specs.FieldData.{Field, members_of}
 use Rattle.rt_wire.specs.QueryData.{index_data, cut_data, limit_data, field_if}
 use Rattle.rt_wire.proofs.Putting.{put_all}

@@ -1,7 +1,7 @@
 -- How much a text may hold, counted without reading it.
 use Rattle.std.specs.Prelude.{ℕ, ◌+◌, ◌==◌, ◌||◌, Bool, true, false, List, [], ◌∷◌, nat_lt, if◌then◌else◌}
-use Rattle.rt_wire.specs.declared.crowd.Place.{Place}
-use Rattle.rt_wire.specs.declared.crowd.Place.TheVariants.{Outside, Inside, Escaped}
+use Rattle.rt_wire.specs.declared.limits.Place.{Place}
+use Rattle.rt_wire.specs.declared.limits.Place.TheVariants.{Outside, Inside, Escaped}
 use Rattle.rt_wire.specs.declared.limits.TheConstants.{MAX_MARKS}
 
 -- where what follows a byte of JSON stands: behind a quote (34) a text begins or ends, and behind a

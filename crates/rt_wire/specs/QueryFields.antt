@@ -18,8 +18,8 @@ use Rattle.rt_order.specs.declared.cut.Place.{Place}
 use Rattle.rt_order.specs.declared.cut.Place.TheVariants.{Min, Before, After, Max}
 use Rattle.rt_order.specs.declared.cut.Cut.{Cut}
 use Rattle.rt_order.specs.declared.cut.Range.{Range}
-use Rattle.rt_query.specs.declared.limit.Limit.{Limit}
-use Rattle.rt_query.specs.declared.limit.Limit.TheVariants.{First, Last}
+use Rattle.rt_query.specs.declared.query.Limit.{Limit}
+use Rattle.rt_query.specs.declared.query.Limit.TheVariants.{First, Last}
 use Rattle.rt_query.specs.Bounds.{is_by_key}
 use Rattle.rt_query.specs.Queries.{Query, is_filtered}
 use Rattle.rt_wire.specs.Fields.{field, path_of_text}

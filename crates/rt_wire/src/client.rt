@@ -21,13 +21,12 @@ ghost use Rattle.rt_wire.specs.declared.request.Ending.TheVariants.{Cancel};
 ghost use Rattle.rt_wire.specs.declared.request.Asked.TheVariants.{AtDisconnect};
 ghost use Rattle.rt_wire.specs.declared.client.ClientMessage.TheVariants.{Hello, Unlisten, Ask};
 
-use crate::entries::entries;
 use crate::error::WireError;
-use crate::field::{json_value, kind, number, path, taken, tree};
+use crate::field::{entries, json_value, kind, number, path, taken, tree};
 use crate::query::query;
 use crate::query_json::write_query;
 use crate::request::{Action, Asked, Ending};
-use crate::writing::{
+use crate::writer::{
     new_writer, text_of, write_entries, write_number, write_path, write_text, write_tree,
 };
 use json::Writer;

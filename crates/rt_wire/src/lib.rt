@@ -10,28 +10,23 @@
 #![tactic(auto)]
 
 mod client;
-mod crowd;
-mod entries;
+mod draft;
 mod error;
 pub mod examples;
 mod field;
 pub mod laws;
 mod limits;
-mod made;
 mod parts;
 mod query;
 mod query_json;
-mod reason;
 mod request;
 mod server;
-mod writing;
+mod writer;
 
 pub use client::ClientMessage;
-pub use crowd::is_crowded;
 pub use error::WireError;
-pub use limits::{MAX_MARKS, MAX_NUMBER, MAX_REASON_BYTES, VERSION};
+pub use limits::{MAX_MARKS, MAX_NUMBER, MAX_REASON_BYTES, VERSION, is_crowded};
 pub use parts::{Part, Parts};
 pub use query_json::query_text;
-pub use reason::Reason;
-pub use request::{Action, Asked, Ending, some_stands_too_deep, stands_too_deep};
+pub use request::{Action, Asked, Ending, Reason, some_stands_too_deep, stands_too_deep};
 pub use server::ServerMessage;

@@ -11,10 +11,9 @@ ghost use Rattle.rt_wire.specs.inside.StandingServer.{IsStandingPart};
 ghost use Rattle.rt_wire.specs.inside.Writing.{PutsValue, PutsItems};
 ghost use Rattle.std.specs.Prelude.{map};
 
-use crate::entries::{places, trees};
 use crate::error::WireError;
-use crate::field::{number, taken};
-use crate::writing::{write_entries, write_number};
+use crate::field::{number, places, taken, trees};
+use crate::writer::{write_entries, write_number};
 use json::Writer;
 use rt_tree::Path;
 use rt_writes::Entries;
@@ -123,24 +122,24 @@ impl Parts {
 // A part of which no value has been looked at: its tag, and the paths of its entries, each with its
 // value.
 #[derive(Drop)]
-struct Found {
+struct FoundFields {
     tag: u64,
     places: Vec<(Path, Value)>,
 }
 
 // The fields of a part.
-fn fields(alloc: Global, part: Value) -> Result<Found, WireError>
+fn fields(alloc: Global, part: Value) -> Result<FoundFields, WireError>
     ensures ok { IfOk result (λ found. part_of (view part) ≡ Some (unread found)) }
     ensures err { IfErr result (λ e. (e ≡ WireError.BadField) × (part_of (view part) ≡ None)
         ⊎ (e ≡ WireError.NoMemory)) }
 {
     let tag = number(&part, "tag")?;
     let places = places(alloc, part)?;
-    Ok(Found { tag, places })
+    Ok(FoundFields { tag, places })
 }
 
 // The fields of each part, in order.
-fn all_found(alloc: Global, items: Vec<Value>) -> Result<Vec<Found>, WireError>
+fn all_found(alloc: Global, items: Vec<Value>) -> Result<Vec<FoundFields>, WireError>
     ensures ok { IfOk result (λ found. all_parts (items_view items.items)
         ≡ Some (map unread found.items)) }
     ensures err { IfErr result (λ e. (e ≡ WireError.BadField)
@@ -167,14 +166,14 @@ fn array(message: Value) -> Result<Vec<Value>, WireError>
 }
 
 // The parts of these fields.
-fn part_trees(alloc: Global, found: Vec<Found>) -> Result<Parts, WireError>
+fn part_trees(alloc: Global, found: Vec<FoundFields>) -> Result<Parts, WireError>
     ensures ok { IfOk result (λ parts. part_trees (map unread found.items) ≡ Ok parts) }
     ensures err { IfErr result (λ e. (part_trees (map unread found.items) ≡ Err e)
         ⊎ (e ≡ WireError.NoMemory)) }
 {
     let mut items = Vec::new(alloc);
     for part in found {
-        let Found { tag, places } = part;
+        let FoundFields { tag, places } = part;
         let entries = trees(alloc, places)?;
         items.push(Part::new(tag, entries))?;
     }

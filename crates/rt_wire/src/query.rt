@@ -9,9 +9,9 @@ ghost use Rattle.rt_wire.specs.QueryFields.{range_of, count_of, limit_with, limi
 ghost use Rattle.rt_wire.specs.QueryFields.{limit_of_items, if_there, query_of};
 ghost use Rattle.rt_wire.specs.inside.Made.{MayCut, Counts};
 
+use crate::draft::made;
 use crate::error::WireError;
 use crate::field::{member, path_of_text};
-use crate::made::made;
 use rt_order::{Cut, Index, Mark, Place, Range};
 use rt_query::{Limit, Query};
 use rt_tree::{Key, Leaf, MAX_TEXT_BYTES, Path, TreeError};

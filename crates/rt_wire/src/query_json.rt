@@ -12,7 +12,7 @@ ghost use Rattle.rt_wire.specs.inside.StandingClient.{IsStandingPlace, IsStandin
 ghost use Rattle.rt_wire.specs.inside.StandingClient.{IsStandingQuery};
 ghost use Rattle.rt_wire.specs.inside.Writing.{PutsValue, PutsItems, PutsField, PutsFields};
 
-use crate::writing::{new_writer, text_of, write_path_text};
+use crate::writer::{new_writer, text_of, write_path_text};
 use json::Writer;
 use rt_order::{Cut, Index, Mark, Place};
 use rt_query::{Limit, Query};

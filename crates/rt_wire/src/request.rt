@@ -1,5 +1,5 @@
 // What the client asks the server for.
-ghost use Rattle.std.specs.Prelude.{◌≡◌, IfOk};
+ghost use Rattle.std.specs.Prelude.{◌≡◌, IfOk, string_bytes};
 ghost use Rattle.std.specs.List.{list_any};
 ghost use Rattle.rt_tree.specs.Assignments.{have_overlap};
 ghost use Rattle.rt_wire.specs.Actions.{entries_of, is_empty_action, stands_too_deep};
@@ -7,6 +7,7 @@ ghost use Rattle.rt_wire.specs.Actions.{entries_of, is_empty_action, stands_too_
 use rt_tree::{Path, Tree};
 use rt_writes::{Entries, is_shallow};
 use std::alloc::{AllocError, Global};
+use std::marker::Model;
 
 /// What a write sets.
 #[derive(Debug, Drop)]
@@ -156,5 +157,51 @@ impl Asked {
             Asked::Now(action) => Ok(Asked::Now(action.copy(alloc)?)),
             Asked::AtDisconnect(ending) => Ok(Asked::AtDisconnect(ending.copy(alloc)?)),
         }
+    }
+}
+
+// ---- why the server refuses or revokes
+
+/// Why the server refuses a request or revokes a listen, in its own words.
+#[derive(Debug)]
+pub struct Reason {
+    text: String,
+}
+
+impl Drop for Reason {
+    fn drop(self) {
+        let Reason { text: _ } = self;
+    }
+}
+
+impl Model for Reason {
+    ghost use Rattle.std.specs.Prelude.{List, ℕ, string_bytes};
+
+    ghost Value = { List ℕ };
+
+    ghost view = { λ a. string_bytes a.text };
+}
+
+impl Reason {
+    /// The reason with that text.
+    pub fn of(text: String) -> Reason
+        ensures { result ≡ string_bytes text }
+    {
+        Reason { text }
+    }
+
+    /// The text of the reason.
+    pub fn text(&self) -> &str
+        ensures { result.now ≡ self.now }
+    {
+        self.text.as_str()
+    }
+
+    /// An equal reason.
+    pub fn copy(&self, alloc: Global) -> Result<Reason, AllocError>
+        ensures { IfOk result (λ reason. reason ≡ self.now) }
+    {
+        let text = String::from_str(alloc, self.text.as_str())?;
+        Ok(Reason { text })
     }
 }

@@ -12,12 +12,11 @@ ghost use Rattle.rt_wire.specs.Server.{ok_in, no_in, revoke_in};
 ghost use Rattle.rt_wire.specs.declared.server.ServerMessage.TheVariants.{Data as DataMessage, DataMerge, Push};
 ghost use Rattle.rt_wire.specs.declared.server.ServerMessage.TheVariants.{Accepted, Refused, Revoked};
 
-use crate::entries::entries;
 use crate::error::WireError;
-use crate::field::{json_value, kind, number, path, reason, taken, tree};
+use crate::field::{entries, json_value, kind, number, path, reason, taken, tree};
 use crate::parts::{Parts, parts_in, write_parts};
-use crate::reason::Reason;
-use crate::writing::{
+use crate::request::Reason;
+use crate::writer::{
     new_writer, text_of, write_entries, write_number, write_path, write_text, write_tree,
 };
 use json::Writer;

@@ -8,7 +8,7 @@ use Rattle.rt_query.specs.QueryEq.{query_eq}
 use Rattle.rt_query.specs.laws.QueryEq.{query_eq_tells}
 use Rattle.rt_cover.specs.Cover.{Registered, Tagged, needed, is_kept, started, kept_for}
 use Rattle.rt_cover.specs.State.{shown_with, beyond}
-use Rattle.rt_cover.specs.declared.kept.Kept.{Kept}
+use Rattle.rt_cover.specs.declared.listen.Kept.{Kept}
 use Rattle.rt_cover.specs.laws.CoverLaws.{Contains-from_filter}
 use Rattle.rt_cover.specs.laws.FormLaws.{same_tests}
 use Rattle.rt_cover.specs.laws.KeepLaws as keep

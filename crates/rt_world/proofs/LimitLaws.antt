@@ -5,7 +5,7 @@ use Rattle.std.specs.Option.{option_map}
 use Rattle.std.proofs.lemmas.Bool.{leb-false}
 use Rattle.rt_cover.specs.laws.KeepLaws.{length_of_map}
 use Rattle.rt_world.specs.declared.error.CoreError.{CoreError}
-use Rattle.rt_world.specs.declared.request.Request.{Request}
+use Rattle.rt_world.specs.declared.step.Request.{Request}
 use Rattle.rt_world.specs.declared.step.Step.{Step}
 use Rattle.rt_world.specs.World.{World, Listener, pending}
 use Rattle.rt_world.specs.steps.Revoking.{is_cancelled}

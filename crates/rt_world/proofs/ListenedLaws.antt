@@ -16,7 +16,7 @@ use Rattle.rt_cache.proofs.Changing.{is_brought}
 use Rattle.rt_cache.proofs.FilteredRuns.{calls_hold}
 use Rattle.rt_cache.proofs.Moves.{unmoved_same}
 use Rattle.rt_cache.proofs.Sources.{has_it, found_all}
-use Rattle.rt_cover.specs.declared.delta.Delta.{Delta}
+use Rattle.rt_cover.specs.declared.change.Delta.{Delta}
 use Rattle.rt_cover.specs.Cover.{Registered, Tagged}
 use Rattle.rt_cover.specs.Runs.{Add, Remove, Revoke}
 use Rattle.rt_cover.specs.State.{Cover, shown_with, difference, removed, revoked, without_tag, left_after, without_listeners}

@@ -19,7 +19,7 @@ use Rattle.rt_cache.specs.Recover.{is_moved}
 use Rattle.rt_cache.proofs.Changing.{is_brought}
 use Rattle.rt_cache.proofs.FilteredRuns.{calls_hold}
 use Rattle.rt_cache.proofs.Moves.{unmoved_same}
-use Rattle.rt_cache.specs.declared.base.Base.{Base}
+use Rattle.rt_cache.specs.declared.brought.Base.{Base}
 use Rattle.rt_cover.specs.Cover.{distinct}
 use Rattle.rt_view.specs.Views.{with_named}
 use Rattle.rt_world.specs.declared.error.CoreError.{CoreError}

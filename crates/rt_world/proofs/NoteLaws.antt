@@ -8,7 +8,7 @@ use Rattle.rt_writes.specs.Writes.{Write}
 use Rattle.rt_cache.specs.Brought.{Brought}
 use Rattle.rt_world.specs.declared.report.Body.TheVariants.{Settled}
 use Rattle.rt_world.specs.declared.report.Note.{Note}
-use Rattle.rt_world.specs.declared.request.Request.{Request}
+use Rattle.rt_world.specs.declared.step.Request.{Request}
 use Rattle.rt_world.specs.World.{Reason, Listener, World, pending}
 use Rattle.rt_world.specs.After.{listeners_after, requests_after, brought_after, renewed}
 use Rattle.rt_world.specs.Answers.{batch_from, batch_note, settled_note, view_before}

@@ -27,7 +27,7 @@ use Rattle.rt_cache.proofs.Places.{or_true}
 use Rattle.rt_cache.proofs.RunLaws.{never}
 use Rattle.rt_cache.proofs.Sources.{has_it, found_all, find_passes}
 use Rattle.rt_cache.proofs.Stays.{AreFiltered, push_stays}
-use Rattle.rt_cache.specs.declared.base.Base.{Base}
+use Rattle.rt_cache.specs.declared.brought.Base.{Base}
 use Rattle.rt_query.specs.QueryOrder.{query_cmp}
 use Rattle.rt_query.specs.laws.QueryOrder.{queries_total, exact_queries, tie_is_eq}
 use Rattle.rt_cover.specs.laws.Paths.{is_at_or_above-trans, above_append}

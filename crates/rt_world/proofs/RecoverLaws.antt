@@ -5,7 +5,7 @@ use Rattle.std.proofs.lemmas.List.Elements.{All-nil, All-cons, All-head, All-tai
 use Rattle.rt_tree.specs.PathTree.{Path, PathTree, null, sub}
 use Rattle.rt_query.specs.Queries.{Query}
 use Rattle.rt_cache.specs.Brought.{Brought, nothing_brought, region_part}
-use Rattle.rt_cache.specs.declared.base.Base.{Base}
+use Rattle.rt_cache.specs.declared.brought.Base.{Base}
 use Rattle.rt_cache.specs.Recover.{reaches, regions_kept, do_plains_overlap}
 use Rattle.rt_cache.specs.Runs.{IsAllowed, after, after_all}
 use Rattle.rt_cache.specs.laws.Runs.{with_push, pushed, known_after, is_known}

@@ -13,7 +13,7 @@ use Rattle.rt_view.specs.Changes.{changes, Turns}
 use Rattle.rt_world.specs.declared.error.CoreError.{CoreError}
 use Rattle.rt_world.specs.declared.report.Body.TheVariants.{Settled, Cancelled}
 use Rattle.rt_world.specs.declared.report.Note.{Note}
-use Rattle.rt_world.specs.declared.request.Request.{Request}
+use Rattle.rt_world.specs.declared.step.Request.{Request}
 use Rattle.rt_world.specs.declared.step.Step.{Step}
 use Rattle.rt_world.specs.Views.{is_known, seen_over, view_of}
 use Rattle.rt_world.specs.World.{Reason, World, Listener, pending}

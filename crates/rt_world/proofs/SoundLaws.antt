@@ -15,7 +15,7 @@ use Rattle.rt_cover.specs.laws.SoundLaws as laws
 use Rattle.rt_world.specs.declared.error.CoreError.{CoreError}
 use Rattle.rt_world.specs.declared.limits.Limits.{Limits}
 use Rattle.rt_wire.specs.declared.request.Asked.{Asked}
-use Rattle.rt_world.specs.declared.request.Request.{Request}
+use Rattle.rt_world.specs.declared.step.Request.{Request}
 use Rattle.rt_world.specs.declared.step.Step.{Step}
 use Rattle.rt_world.specs.World.{World, Listener, empty_world, registered, pending}
 use Rattle.rt_world.specs.steps.Asking.{requests_with}

@@ -16,7 +16,7 @@ use Rattle.rt_writes.specs.laws.OverlayLaws.{fold-overlaid_part}
 use Rattle.rt_query.specs.QueryEq.{query_eq}
 use Rattle.rt_cache.specs.Brought.{Brought, source, base, knows, region_part}
 use Rattle.rt_cache.specs.Canonical.{IsCanonical, Belongs}
-use Rattle.rt_cache.specs.declared.base.Base.{Base}
+use Rattle.rt_cache.specs.declared.brought.Base.{Base}
 use Rattle.rt_cache.specs.Recover.{reaches, regions_kept, cut, heirs, recover, is_moved}
 use Rattle.rt_cache.proofs.Bases.{plain_found}
 use Rattle.rt_cache.proofs.Changes.{recover_stays}

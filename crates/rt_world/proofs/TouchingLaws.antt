@@ -13,7 +13,7 @@ use Rattle.rt_writes.specs.Writes as writes
 use Rattle.rt_writes.specs.laws.TouchLaws.{fold-untouched}
 use Rattle.rt_wire.specs.declared.request.Asked.{Asked}
 use Rattle.rt_wire.specs.declared.request.Asked.TheVariants.{Now, AtDisconnect}
-use Rattle.rt_world.specs.declared.request.Request.{Request}
+use Rattle.rt_world.specs.declared.step.Request.{Request}
 use Rattle.rt_world.specs.declared.step.Step.{Step}
 use Rattle.rt_world.specs.World.{World, entries_of, pending, write_asked}
 use Rattle.rt_world.specs.After.{requests_after}

@@ -9,7 +9,7 @@ use Rattle.rt_cache.specs.Brought.{Brought, push}
 use Rattle.rt_cache.specs.Recover.{recover}
 use Rattle.rt_cover.specs.Cover.{forms, needed, Tagged, started, kept_for}
 use Rattle.rt_wire.specs.declared.request.Asked.TheVariants.{Now, AtDisconnect}
-use Rattle.rt_world.specs.declared.request.Request.{Request}
+use Rattle.rt_world.specs.declared.step.Request.{Request}
 use Rattle.rt_world.specs.declared.step.Step.{Step}
 use Rattle.rt_world.specs.Views.{is_known, view_of}
 use Rattle.rt_world.specs.World.{Listener, World, registered, listening, pending}

@@ -11,7 +11,7 @@ use Rattle.rt_world.specs.declared.report.Body.TheVariants.{Settled, Cancelled, 
 use Rattle.rt_world.specs.declared.report.Note.{Note}
 use Rattle.rt_world.specs.declared.report.Outcome.TheVariants.{Done, Stale}
 use Rattle.rt_world.specs.declared.report.Report.{Report}
-use Rattle.rt_world.specs.declared.request.Request.{Request}
+use Rattle.rt_world.specs.declared.step.Request.{Request}
 use Rattle.rt_world.specs.declared.step.Step.{Step}
 use Rattle.rt_world.specs.World.{Reason, Listener, World}
 use Rattle.rt_world.specs.After.{kind, renewed_after, listener_given}

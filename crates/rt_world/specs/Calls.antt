@@ -2,8 +2,8 @@
 use Rattle.std.specs.Prelude.{ℕ}
 use Rattle.rt_wire.specs.declared.server.ServerMessage.{ServerMessage}
 use Rattle.rt_wire.specs.declared.server.ServerMessage.TheVariants as message
-use Rattle.rt_world.specs.declared.call.Call.{Call}
-use Rattle.rt_world.specs.declared.call.Call.TheVariants as call
+use Rattle.rt_world.specs.declared.step.Call.{Call}
+use Rattle.rt_world.specs.declared.step.Call.TheVariants as call
 use Rattle.rt_world.specs.declared.step.Step.{Step}
 
 -- a seat's call as a step

@@ -1,7 +1,7 @@
 -- The listens of a world are those of a cover that takes its changes of listeners.
 use Rattle.std.specs.Prelude.{map, Option}
 use Rattle.std.specs.Option.{option_map, option_map_or}
-use Rattle.rt_cover.specs.declared.delta.Delta.{Delta}
+use Rattle.rt_cover.specs.declared.change.Delta.{Delta}
 use Rattle.rt_cover.specs.State.{Cover, shown_with}
 use Rattle.rt_cover.specs.Runs.{Change, changed}
 use Rattle.rt_world.specs.declared.step.Step.{Step}

@@ -6,7 +6,7 @@ use Rattle.rt_cover.specs.Cover.{Tagged}
 use Rattle.rt_cover.specs.State.{beyond}
 use Rattle.rt_wire.specs.declared.client.ClientMessage.{ClientMessage}
 use Rattle.rt_wire.specs.declared.limits.TheConstants.{VERSION}
-use Rattle.rt_world.specs.declared.request.Request.{Request}
+use Rattle.rt_world.specs.declared.step.Request.{Request}
 use Rattle.rt_world.specs.declared.step.Step.{Step}
 use Rattle.rt_world.specs.World.{World}
 use Rattle.rt_world.specs.After.{kind, requests_after, kept_after, started_by}

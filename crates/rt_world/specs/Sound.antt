@@ -3,7 +3,7 @@ use Rattle.std.specs.Prelude.{◌≡◌, ◌<◌, true, List, [], ◌∷◌}
 use Rattle.std.specs.List.{All, AllPairs}
 use Rattle.rt_cover.specs.State.{Cover}
 use Rattle.rt_cover.specs.inside.Sound as cover
-use Rattle.rt_world.specs.declared.request.Request.{Request}
+use Rattle.rt_world.specs.declared.step.Request.{Request}
 use Rattle.rt_world.specs.World.{Listener, World, registered, pending}
 use Rattle.rt_world.specs.Views.{is_known}
 use Rattle.rt_world.specs.Headline.{view_by}

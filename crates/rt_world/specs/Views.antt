@@ -6,7 +6,7 @@ use Rattle.rt_query.specs.Queries.{Query, is_filtered}
 use Rattle.rt_query.specs.Select.{Shown, select}
 use Rattle.rt_writes.specs.Writes.{Write, overlay, sets_whole, sets_child_whole}
 use Rattle.rt_cache.specs.Brought.{Brought, base, knows}
-use Rattle.rt_cache.specs.declared.base.Base.{Base}
+use Rattle.rt_cache.specs.declared.brought.Base.{Base}
 
 -- a listener is known where something is brought for its query, or a pending entry sits at or above
 -- its path

@@ -8,7 +8,7 @@ use Rattle.rt_query.specs.Select.{Shown}
 use Rattle.rt_query.specs.Supply.{form}
 use Rattle.rt_writes.specs.Writes.{Write}
 use Rattle.rt_cache.specs.Brought.{Brought, nothing_brought}
-use Rattle.rt_cover.specs.declared.kept.Kept.{Kept}
+use Rattle.rt_cover.specs.declared.listen.Kept.{Kept}
 use Rattle.rt_cover.specs.Cover.{Registered, Tagged}
 use Rattle.rt_cover.specs.State.{shown_with}
 use Rattle.rt_world.specs.declared.limits.Limits.{Limits}
@@ -16,7 +16,7 @@ use Rattle.rt_world.specs.declared.limits.TheConstants.{MAX_LISTENERS, MAX_REQUE
 use Rattle.rt_wire.specs.declared.client.ClientMessage.{ClientMessage}
 use Rattle.rt_wire.specs.declared.request.Asked.{Asked}
 use Rattle.rt_wire.specs.declared.request.Asked.TheVariants.{Now, AtDisconnect}
-use Rattle.rt_world.specs.declared.request.Request.{Request}
+use Rattle.rt_world.specs.declared.step.Request.{Request}
 pub use Rattle.rt_wire.specs.Actions.{entries_of}
 
 -- a text, as the reason of a refusal, is its bytes

@@ -3,7 +3,7 @@ use Rattle.std.specs.Prelude.{ℕ, ◌+◌, ◌≤◌, ◌==◌, Bool, not, List
 use Rattle.std.specs.Prelude.{Option, Some, None}
 use Rattle.std.specs.List.{fold, filter, find, flat_map, list_any}
 use Rattle.std.specs.Option.{option_map}
-use Rattle.rt_writes.specs.declared.write.Write as declared
+use Rattle.rt_writes.specs.declared.pending.Write as declared
 use Rattle.rt_tree.specs.declared.limits.TheConstants.{MAX_LEVELS}
 use Rattle.rt_tree.specs.PathTree.{Key, Path, strip, PathTree, sub, put, levels}
 use Rattle.rt_tree.specs.Assignments.{is_at_or_above, do_overlap, Assignment}

@@ -15,15 +15,9 @@ mod entries;
 mod error;
 pub mod examples;
 mod laws;
-mod laying;
-mod list;
 mod marks;
-mod merged;
-mod numbers;
-mod overlap;
 mod pending;
 mod spots;
-mod write;
 
 pub use entries::{Entries, is_shallow};
 pub use error::WriteError;

@@ -1,24 +1,18 @@
 // The writes that the server has not settled.
-ghost use Rattle.std.specs.Prelude.{◌≡◌, ◌==◌, ◌↔◌, ◌<◌, ◌∷◌, [], ◌++◌, length, true, false, IfOk};
-ghost use Rattle.std.specs.Prelude.{OnErr, OnOk, IsTrue, IsOk, Ok, Err, None};
+ghost use Rattle.std.specs.Prelude.{◌≡◌, ◌==◌, ◌↔◌, ◌<◌, ◌∷◌, [], ◌++◌, length, true, false, IfOk, OnErr};
+ghost use Rattle.std.specs.Prelude.{OnOk, IsTrue, IsOk, Ok, Err, None, IfSome, List, Some};
 ghost use Rattle.std.specs.Option.{option_map};
-ghost use Rattle.std.specs.Prelude.{IfSome};
-ghost use Rattle.std.specs.List.{All, filter, position};
+ghost use Rattle.std.specs.List.{All, filter, position, AllPairs, find};
 ghost use Rattle.rt_tree.specs.Assignments.{have_overlap};
 ghost use Rattle.rt_writes.specs.Kept.{IsKept};
 ghost use Rattle.rt_writes.specs.Writes.{IsShallow, overlay, touches, sets_whole, sets_child_whole};
-ghost use Rattle.rt_writes.specs.Writes.{entries_of, without};
+ghost use Rattle.rt_writes.specs.Writes.{entries_of, without, Write as PendingWrite};
 ghost use Rattle.rt_tree.specs.PathTree.{PathTree};
 ghost use Rattle.rt_writes.specs.inside.Spots.{IsAbove, IsLast, IsMerged, overlaid_last};
 
 use crate::entries::Entries;
 use crate::error::WriteError;
-use crate::laying::lay_below;
-use crate::list::{overlaid_by_each, some_sets_child_whole, some_sets_whole};
-use crate::merged::{merged_anew, merged_with, merged_without};
-use crate::numbers::place_of;
-use crate::spots::{Spot, sets_child};
-use crate::write::Write;
+use crate::spots::{Spot, lay_below, sets_child};
 use rt_tree::{Key, Path, Tree};
 use std::alloc::{AllocError, Global};
 use std::collections::VecDeque;
@@ -340,4 +334,131 @@ impl Pending {
         let (first, others) = self.writes.as_slices();
         some_sets_child_whole(first, path, key) || some_sets_child_whole(others, path, key)
     }
+}
+
+// ---- a write that is pending
+
+// What is set, under the number that the write was given.
+#[derive(Debug, Drop)]
+pub(crate) struct Write {
+    pub(crate) id: u64,
+    pub(crate) entries: Entries,
+}
+
+// ---- writes by number
+
+// Where the write of that number stands, if it is pending, by halving.
+pub(crate) fn place_of(writes: &VecDeque<Write>, id: u64) -> Option<usize>
+    requires { AllPairs (λ v w. v.id < w.id) writes.now.items }
+    ensures { result ≡ position (λ w. w.id == id) writes.now.items }
+{
+    let place = writes.partition_point(|write| write.id < id);
+    if place == writes.len() {
+        return None;
+    }
+    if writes[place].id == id {
+        Some(place)
+    } else {
+        None
+    }
+}
+
+// ---- looks that go over all writes of a list
+
+// The tree at the path after each entry of each write, in order.
+pub(crate) fn overlaid_by_each(
+    writes: &[Write],
+    alloc: Global,
+    path: &Path,
+    tree: Tree,
+) -> Result<Tree, AllocError>
+    requires tree { IsShallow (path.now, tree) }
+    requires entries { All (λ w. All IsShallow w.entries) writes.now }
+    ensures overlay { IfOk result (λ after. after ≡ overlay path.now tree writes.now) }
+    ensures shallow { IfOk result (λ after. IsShallow (path.now, after)) }
+    ensures touched { OnErr result (touches writes.now path.now ≡ true) }
+{
+    let mut after = tree;
+    for write in writes {
+        after = write.entries.overlaid(alloc, path, after)?;
+    }
+    Ok(after)
+}
+
+// Whether a write sets the whole of what stands at the path.
+pub(crate) fn some_sets_whole(writes: &[Write], path: &Path) -> bool
+    ensures { result ≡ sets_whole writes.now path.now }
+{
+    writes.iter().any(|write| write.entries.set_whole(path))
+}
+
+// Whether a write sets the whole of the child of that key.
+pub(crate) fn some_sets_child_whole(writes: &[Write], path: &Path, key: &Key) -> bool
+    ensures { result ≡ sets_child_whole writes.now path.now key.now }
+{
+    writes
+        .iter()
+        .any(|write| write.entries.set_child_whole(path, key))
+}
+
+// ---- the tree of paths of the pending writes, which is given up where memory lacks
+
+// With the entries of one write more.
+pub(crate) fn merged_with(
+    merged: Option<Spot>,
+    alloc: Global,
+    id: u64,
+    entries: &[(Path, Tree)],
+) -> Option<Spot>
+    requires { All IsShallow entries.now }
+    ensures { (writes : List PendingWrite) → IfSome merged (IsMerged writes)
+        → IfSome result (IsMerged (writes ++ record { id = id; entries = entries.now } ∷ [])) }
+{
+    let Some(mut root) = merged else {
+        return None;
+    };
+    match root.add_all(alloc, id, entries) {
+        Ok(()) => Some(root),
+        Err(_) => None,
+    }
+}
+
+// Without the entries of the write of that number.
+pub(crate) fn merged_without(
+    merged: Option<Spot>,
+    id: u64,
+    entries: &[(Path, Tree)],
+) -> Option<Spot>
+    ensures { (writes : List PendingWrite) → AllPairs (λ v w. v.id < w.id) writes
+        → find (λ w. w.id == id) writes ≡ Some (record { id = id; entries = entries.now })
+        → IfSome merged (IsMerged writes) → IfSome result (IsMerged (without id writes)) }
+{
+    let Some(mut root) = merged else {
+        return None;
+    };
+    root.forget_all(id, entries);
+    Some(root)
+}
+
+// Of all these writes.
+pub(crate) fn merged_anew(alloc: Global, writes: &VecDeque<Write>) -> Option<Spot>
+    requires { All (λ w. All IsShallow w.entries) writes.now.items }
+    ensures { IfSome result (IsMerged writes.now.items) }
+{
+    let (first, others) = writes.as_slices();
+    let merged = merged_with_each(Some(Spot::new(alloc)), alloc, first);
+    merged_with_each(merged, alloc, others)
+}
+
+// With the entries of these writes more.
+fn merged_with_each(merged: Option<Spot>, alloc: Global, writes: &[Write]) -> Option<Spot>
+    requires { All (λ w. All IsShallow w.entries) writes.now }
+    ensures { (before : List PendingWrite) → IfSome merged (IsMerged before)
+        → IfSome result (IsMerged (before ++ writes.now)) }
+{
+    let mut all = merged;
+    for write in writes {
+        all = merged_with(all, alloc, write.id, write.entries.as_slice());
+    }
+    all
 }

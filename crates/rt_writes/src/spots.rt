@@ -1,22 +1,26 @@
 // One tree of the paths at which something is pending.
-ghost use Rattle.std.specs.Prelude.{◌≡◌, ◌==◌, ◌↔◌, ◌++◌, ◌∷◌, [], ℕ, true, false, IsTrue, OnOk};
-ghost use Rattle.std.specs.Prelude.{Some, None, if◌then◌else◌, ◌<◌, ◌≤◌, IfOk, IfSome, not, length};
-ghost use Rattle.std.specs.List.{All};
+ghost use Rattle.std.specs.Prelude.{◌≡◌, ◌==◌, ◌↔◌, ◌++◌, ◌∷◌, [], ℕ, true, false, IsTrue, OnOk, Some, None};
+ghost use Rattle.std.specs.Prelude.{if◌then◌else◌, ◌<◌, ◌≤◌, IfOk, IfSome, not, length, OnErr};
+ghost use Rattle.std.specs.List.{All, fold};
 ghost use Rattle.std.specs.Option.{option_copied, option_map_or};
 ghost use Rattle.std.specs.Ordering.{nat_cmp};
 ghost use Rattle.std.specs.BTreeMap.{get};
 ghost use Rattle.rt_tree.specs.PathTree.{Path as Keys, null, is_null};
-ghost use Rattle.rt_writes.specs.inside.Spots.{spot_at, has_here, has_under, has_full, place_at};
-ghost use Rattle.rt_writes.specs.inside.Spots.{Adds, Forgets, AddsAll, ForgetsAll};
-ghost use Rattle.rt_writes.specs.inside.Spots.{IsLast, IsAbove, IsBare, later_of};
-ghost use Rattle.rt_writes.specs.inside.Spots.{tree_at, AddsTrees, KeepsTrees, KeepsPart};
-ghost use Rattle.rt_writes.specs.Writes.{IsShallow};
+ghost use Rattle.rt_writes.specs.inside.Spots.{spot_at, has_here, has_under, has_full, place_at, Adds};
+ghost use Rattle.rt_writes.specs.inside.Spots.{Forgets, AddsAll, ForgetsAll, IsLast, IsAbove, IsBare};
+ghost use Rattle.rt_writes.specs.inside.Spots.{later_of, tree_at, AddsTrees, KeepsTrees, KeepsPart};
+ghost use Rattle.rt_writes.specs.inside.Spots.{IsMergedAt, AreApart, LaysAt, SetsAt, Laid, after, entry_at};
+ghost use Rattle.rt_writes.specs.inside.Spots.{marked};
+ghost use Rattle.rt_writes.specs.Writes.{IsShallow, overlaid, sets_whole, touches};
+ghost use Rattle.rt_tree.specs.Assignments.{do_overlap};
+ghost use Rattle.rt_writes.specs.Kept.{IsKept};
 
-use crate::entries::copy_part;
-use crate::marks::Marks;
-use rt_tree::{Key, MAX_KEYS, Path, Tree};
+use crate::entries::{copy_part, overlaid};
+use crate::marks::{Marks, is_after};
+use crate::pending::{Write, place_of};
+use rt_tree::{Key, Leaf, MAX_KEYS, Path, Tree};
 use std::alloc::{AllocError, Global};
-use std::collections::BTreeMap;
+use std::collections::{BTreeMap, VecDeque};
 
 // A path at or above which, or below which, an entry of a pending write sits: the numbers of the
 // writes that set the whole of what stands there, each with the place of that entry in its write;
@@ -244,4 +248,100 @@ pub(crate) fn sets_child(spot: Option<&Spot>, key: &Key) -> bool
         Some(spot) => spot.is_child_set(key),
         None => false,
     }
+}
+
+// ---- what the pending writes lay over a tree, spot by spot: of each path the last tree alone
+
+// The tree at the path after what the writes with later numbers set below the spot: of each spot
+// there the last tree alone, and of those below it what came after.
+pub(crate) fn lay_below(
+    spot: &Spot,
+    writes: &VecDeque<Write>,
+    last: Option<u64>,
+    path: &Path,
+    tree: Tree,
+) -> Result<Tree, AllocError>
+    requires tree { IsShallow (path.now, tree) }
+    requires kept { IsKept writes.now.items }
+    ensures laid { IfOk result (λ done. (x : Keys) → AreApart writes.now.items
+        → IsMergedAt writes.now.items x spot.now
+        → sets_whole (after last writes.now.items) x ≡ false
+        → Laid (LaysAt writes.now.items x last) path.now tree done) }
+    ensures shallow { IfOk result (λ done. IsShallow (path.now, done)) }
+    ensures touched { OnErr result (touches writes.now.items path.now ≡ true) }
+{
+    if !spot.under.has_after(last) {
+        return Ok(tree);
+    }
+    let mut done = tree;
+    for (_, child) in &spot.below {
+        let here = child.last_here();
+        done = lay_here(child, here, writes, last, path, done)?;
+        done = lay_below(child, writes, later(last, here), path, done)?;
+    }
+    Ok(done)
+}
+
+// The tree at the path after the last write that sets the whole of what stands at the spot, if it is
+// a later one.
+fn lay_here(
+    spot: &Spot,
+    here: Option<u64>,
+    writes: &VecDeque<Write>,
+    last: Option<u64>,
+    path: &Path,
+    tree: Tree,
+) -> Result<Tree, AllocError>
+    requires tree { IsShallow (path.now, tree) }
+    requires kept { IsKept writes.now.items }
+    requires here { IsLast (λ j. has_here spot.now [] j ≡ true) here }
+    ensures laid { IfOk result (λ done. (x : Keys) → AreApart writes.now.items
+        → IsMergedAt writes.now.items x spot.now
+        → Laid (SetsAt writes.now.items x last here) path.now tree done) }
+    ensures shallow { IfOk result (λ done. IsShallow (path.now, done)) }
+    ensures touched { OnErr result (touches writes.now.items path.now ≡ true) }
+{
+    let Some(number) = here else {
+        return Ok(tree);
+    };
+    if !is_after(last, number) {
+        return Ok(tree);
+    }
+    let Some(place) = spot.here.get(&number) else {
+        return Ok(tree);
+    };
+    match entry_of(writes, number, *place) {
+        Some(entry) => lay_entry(entry, spot.under.has_full_after(last), path, tree),
+        None => Ok(tree),
+    }
+}
+
+// The tree at the path after an entry. Where it sets null, and something was set in between, a leaf
+// above it has gone all the same.
+fn lay_entry(entry: &(Path, Tree), fills: bool, path: &Path, tree: Tree) -> Result<Tree, AllocError>
+    requires tree { IsShallow (path.now, tree) }
+    requires entry { IsShallow entry.now }
+    ensures laid { IfOk result (λ done. done ≡ fold (overlaid path.now) tree (marked fills entry.now)) }
+    ensures shallow { IfOk result (λ done. IsShallow (path.now, done)) }
+    ensures touched { OnErr result (do_overlap entry.now.0 path.now ≡ true) }
+{
+    let alloc = path.allocator();
+    // For the prover: no path has more than 32 keys.
+    let _is_path = entry.0.keys();
+    let mut done = tree;
+    if fills && entry.1.is_null() {
+        done = overlaid(alloc, path, done, &entry.0, &Tree::leaf(Leaf::truth(true)))?;
+    }
+    overlaid(alloc, path, done, &entry.0, &entry.1)
+}
+
+// The entry at that place of the write of that number.
+fn entry_of(writes: &VecDeque<Write>, id: u64, place: usize) -> Option<&(Path, Tree)>
+    requires kept { IsKept writes.now.items }
+    ensures { option_copied result ≡ entry_at writes.now.items id place }
+{
+    let Some(at) = place_of(writes, id) else {
+        return None;
+    };
+    writes[at].entries.as_slice().get(place)
 }

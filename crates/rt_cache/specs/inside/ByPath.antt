@@ -8,7 +8,7 @@ use Rattle.rt_query.specs.Queries.{Query}
 use Rattle.rt_query.specs.QueryEq.{query_eq}
 use Rattle.rt_query.specs.QueryOrder.{query_cmp}
 use Rattle.rt_query.specs.Supply.{does_supply}
-use Rattle.rt_cache.specs.declared.window.Window.{Window}
+use Rattle.rt_cache.specs.declared.windows.Window.{Window}
 
 -- two elements by the paths of their queries
 abbrev pub by_query : {X : Type 0} → (X → Query) → X → X → Ordering

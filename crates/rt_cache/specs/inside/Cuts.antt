@@ -6,8 +6,8 @@ use Rattle.rt_tree.specs.PathTree.{Path, PathTree}
 use Rattle.rt_query.specs.Queries.{Query, is_filtered}
 use Rattle.rt_cache.specs.Brought.{region_part}
 use Rattle.rt_cache.specs.Recover.{reaches, parts_of, with_regions}
-use Rattle.rt_cache.specs.declared.region.Region.{Region}
-use Rattle.rt_cache.specs.declared.spans.Span.{Span}
+use Rattle.rt_cache.specs.declared.regions.Region.{Region}
+use Rattle.rt_cache.specs.declared.by_path.Span.{Span}
 use Rattle.rt_cache.specs.inside.Held.{pairs_of}
 use Rattle.rt_cache.specs.inside.Spans.{AreLost}
 

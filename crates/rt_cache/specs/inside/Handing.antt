@@ -12,10 +12,10 @@ use Rattle.rt_cache.specs.Brought as what
 use Rattle.rt_cache.specs.Brought.{Brought, region_part}
 use Rattle.rt_cache.specs.Recover.{regions_kept, heirs, cut, handed_on, is_among}
 use Rattle.rt_cache.specs.declared.by_path.Lent.{Lent}
-use Rattle.rt_cache.specs.declared.region.Region.{Region}
-use Rattle.rt_cache.specs.declared.registered.Form.{Form}
-use Rattle.rt_cache.specs.declared.spans.Span.{Span}
-use Rattle.rt_cache.specs.declared.window.Window.{Window}
+use Rattle.rt_cache.specs.declared.regions.Region.{Region}
+use Rattle.rt_cache.specs.declared.forms.Form.{Form}
+use Rattle.rt_cache.specs.declared.by_path.Span.{Span}
+use Rattle.rt_cache.specs.declared.windows.Window.{Window}
 use Rattle.rt_cache.specs.inside.Held.{entries_of}
 use Rattle.rt_cache.specs.inside.Listed.{queries_of}
 use Rattle.rt_cache.specs.inside.Spans.{have_place, AreInOrder, AreFilled}

@@ -8,8 +8,8 @@ use Rattle.rt_tree.specs.declared.limits.TheConstants.{MAX_KEYS}
 use Rattle.rt_query.specs.Queries.{Query}
 use Rattle.rt_cache.specs.Brought.{Window, Brought, window_of, windows_pushed}
 use Rattle.rt_cache.specs.Recover.{in_query_order}
-use Rattle.rt_cache.specs.declared.region.Region.{Region}
-use Rattle.rt_cache.specs.declared.window.Window as inside
+use Rattle.rt_cache.specs.declared.regions.Region.{Region}
+use Rattle.rt_cache.specs.declared.windows.Window as inside
 
 -- a region as its path with its tree
 abbrev pub pair_of : Region → Path × PathTree

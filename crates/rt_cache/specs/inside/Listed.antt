@@ -4,7 +4,7 @@ use Rattle.std.specs.List.{filter, AllPairs}
 use Rattle.std.specs.Ordering.{is_lt}
 use Rattle.rt_tree.specs.PathTree.{Path, path_cmp, path_eq}
 use Rattle.rt_query.specs.Queries.{Query, is_filtered}
-use Rattle.rt_cache.specs.declared.registered.Form.{Form}
+use Rattle.rt_cache.specs.declared.forms.Form.{Form}
 use Rattle.rt_cache.specs.inside.ByPath.{AreByPath}
 
 -- the query of a form, and those of forms

@@ -19,9 +19,13 @@ abbrev pub AreBeside : List (Path × PathTree) → List (Query × Window) → Ty
 AreBeside regions windows =
     All (λ (w : Query × Window). list_any (λ r. is_at_or_above r.0 (w.0).path) regions ≡ false) windows
 
+-- of two windows neither form supplies the other
+abbrev pub AreAlone : List (Query × Window) → Type 0
+AreAlone windows = AllPairs (λ (v w : Query × Window). (does_supply v.0 w.0 ≡ false)
+    × (does_supply w.0 v.0 ≡ false)) windows
+
 -- the windows are of registered filtered forms, and of two of them neither form supplies the other
 pub record HaveForms (forms : List Query) (windows : List (Query × Window)) : Type 0 where
   pub registered : All (λ (w : Query × Window). Contains forms w.0) windows
   pub filtered : All (λ (w : Query × Window). is_filtered w.0 ≡ true) windows
-  pub apart : AllPairs (λ (v w : Query × Window). (does_supply v.0 w.0 ≡ false)
-      × (does_supply w.0 v.0 ≡ false)) windows
+  pub apart : AreAlone windows

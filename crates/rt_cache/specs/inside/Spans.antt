@@ -4,8 +4,8 @@ use Rattle.std.specs.Prelude.{slice_index_or, true, false, Option, Some, None}
 use Rattle.std.specs.List.{list_any, remove_range, All}
 use Rattle.rt_query.specs.Queries.{Query}
 use Rattle.rt_cache.specs.Recover.{reaches}
-use Rattle.rt_cache.specs.declared.region.Region.{Region}
-use Rattle.rt_cache.specs.declared.spans.Span.{Span}
+use Rattle.rt_cache.specs.declared.regions.Region.{Region}
+use Rattle.rt_cache.specs.declared.by_path.Span.{Span}
 
 -- whether the place is in the span
 abbrev pub has_place : ℕ → Span → Bool

@@ -3,7 +3,7 @@ use Rattle.std.specs.Prelude.{◌≡◌, ◌≢◌, ℕ, true, false, List, [], 
 use Rattle.rt_tree.specs.Leaf.{number}
 use Rattle.rt_tree.specs.Path.{path_keys}
 use Rattle.rt_tree.specs.PathTree.{Path, PathTree, null, of_leaf, object}
-use Rattle.rt_query.specs.declared.limit.Limit.TheVariants.{First}
+use Rattle.rt_query.specs.declared.query.Limit.TheVariants.{First}
 use Rattle.rt_query.specs.Drafts.{finished}
 use Rattle.rt_query.specs.Queries.{Query, plain}
 use Rattle.rt_query.specs.laws.Examples.{between}

@@ -6,7 +6,7 @@ use Rattle.std.specs.Option.{option_map, option_map_or}
 use Rattle.std.specs.Coded.{Coded, code_by, coded×, coded_ℕ, coded_bool, coded_list, coded_option}
 use Rattle.std.specs.declared.cmp.Ordering.{Ordering}
 use Rattle.slab.specs.Slab.{Slab, Updates, get, slab_code}
-use Rattle.rt_chain.specs.declared.node.Node.{Node}
+use Rattle.rt_chain.specs.declared.linked_map.Node.{Node}
 use Rattle.rt_chain.specs.Chains.{IsApart, IsOther, head_or}
 
 -- the keys with their slots, in the keys' order, and the nodes

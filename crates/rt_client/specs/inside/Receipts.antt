@@ -5,8 +5,8 @@ use Rattle.rt_world.specs.declared.report.Note.{Note}
 use Rattle.rt_mail.specs.declared.receipt.Receipt.{Receipt}
 use Rattle.rt_mail.specs.declared.receipt.Receipt.TheVariants.{Listened, Unlistened, Wrote, Asked}
 use Rattle.rt_mail.specs.Lanes.{Line, signed_lane}
-use Rattle.rt_world.specs.declared.call.Call.{Call}
-use Rattle.rt_world.specs.declared.call.Call.TheVariants as call
+use Rattle.rt_world.specs.declared.step.Call.{Call}
+use Rattle.rt_world.specs.declared.step.Call.TheVariants as call
 use Rattle.rt_client.specs.Lanes.{lane_of, IsChanged, AreQueued}
 
 abbrev pub receipt_with : ℕ → Call → Receipt

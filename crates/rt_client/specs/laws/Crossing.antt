@@ -8,7 +8,7 @@ use Rattle.rt_writes.specs.contracts.entries.Entries as entries
 use Rattle.rt_wire.specs.contracts.request.Action as action
 use Rattle.rt_wire.specs.contracts.client.ClientMessage as message
 use Rattle.rt_wire.specs.contracts.server.ServerMessage as server
-use Rattle.rt_world.specs.contracts.call.Call as call
+use Rattle.rt_world.specs.contracts.step.Call as call
 use Rattle.rt_mail.specs.contracts.item.Item as item
 use Rattle.rt_mail.specs.contracts.mirror.Mirror as mirror
 use Rattle.rt_mail.specs.contracts.snapshots.Snapshots as snapshots

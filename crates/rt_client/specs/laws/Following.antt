@@ -7,8 +7,8 @@ use Rattle.rt_world.specs.World.{World}
 use Rattle.rt_mail.specs.declared.item.Item.{Item}
 use Rattle.rt_mail.specs.Mailbox.{Known, nothing_known, taken, known_of}
 use Rattle.rt_mail.specs.Lanes.{Line}
-use Rattle.rt_world.specs.declared.call.Call.{Call}
-use Rattle.rt_client.specs.declared.done.Done.{Done}
+use Rattle.rt_world.specs.declared.step.Call.{Call}
+use Rattle.rt_client.specs.declared.shared.Done.{Done}
 use Rattle.rt_client.specs.Seats.{reflection, caller_of, closed_by}
 use Rattle.rt_client.specs.Shared.{Held, IsKept}
 use Rattle.rt_client.specs.Calls.{Locked, Seated, IsOpen, MakesOn, MakesCall}

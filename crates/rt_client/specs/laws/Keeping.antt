@@ -2,12 +2,12 @@
 use Rattle.std.specs.Prelude.{◌≡◌, ℕ, List, Option, Some, None}
 use Rattle.std.specs.Option.{option_map}
 use Rattle.rt_world.specs.declared.limits.Limits.{Limits}
-use Rattle.rt_world.specs.declared.call.Call.{Call}
+use Rattle.rt_world.specs.declared.step.Call.{Call}
 use Rattle.rt_world.specs.declared.step.Step.{Step}
 use Rattle.rt_world.specs.World.{World, empty_world}
 use Rattle.rt_wire.specs.declared.client.ClientMessage.{ClientMessage}
 use Rattle.rt_mail.specs.Lanes.{Line, Ring, without_first}
-use Rattle.rt_client.specs.declared.done.Done.{Done}
+use Rattle.rt_client.specs.declared.shared.Done.{Done}
 use Rattle.rt_client.specs.Seats.{caller_of}
 use Rattle.rt_client.specs.Lanes.{new_lane, lane_of, IsChanged}
 use Rattle.rt_client.specs.Shared.{AreTold, Held, IsKept, IsWhole, MakesStep}

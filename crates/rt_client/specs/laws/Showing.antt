@@ -4,7 +4,7 @@ use Rattle.std.specs.List.{filter, find, All}
 use Rattle.std.specs.Option.{option_map, IfSome}
 use Rattle.rt_query.specs.Select.{tree_of}
 use Rattle.rt_wire.specs.declared.client.ClientMessage.{ClientMessage}
-use Rattle.rt_world.specs.declared.call.Call.{Call}
+use Rattle.rt_world.specs.declared.step.Call.{Call}
 use Rattle.rt_world.specs.declared.limits.Limits.{Limits}
 use Rattle.rt_world.specs.declared.step.Step.{Step}
 use Rattle.rt_world.specs.World.{Listener, World, empty_world}
@@ -13,7 +13,7 @@ use Rattle.rt_world.specs.Sound.{IsSound}
 use Rattle.rt_mail.specs.declared.item.Item.{Item}
 use Rattle.rt_mail.specs.Lanes.{Line}
 use Rattle.rt_mail.specs.Snapshots.{Seen, Known, shown_of, seen_of, after_items}
-use Rattle.rt_client.specs.declared.done.Done.{Done}
+use Rattle.rt_client.specs.declared.shared.Done.{Done}
 use Rattle.rt_client.specs.Seats.{caller_of, does_close, told_by, told_in}
 use Rattle.rt_client.specs.Shared.{Held, IsWhole}
 use Rattle.rt_client.specs.Calls.{Locked, Seated, IsOpen, MakesOn, MakesCall}

@@ -6,7 +6,7 @@ use Rattle.rt_tree.specs.PathTree.{Path, path_eq}
 use Rattle.rt_query.specs.Queries.{Query, is_filtered}
 use Rattle.rt_query.specs.QueryEq.{query_eq}
 use Rattle.rt_query.specs.Supply.{does_supply}
-use Rattle.rt_cover.specs.declared.kept.Kept.{Kept}
+use Rattle.rt_cover.specs.declared.listen.Kept.{Kept}
 use Rattle.rt_cover.specs.Cover.{Registered, Tagged, is_kept}
 
 -- whether a listener ends, by its number

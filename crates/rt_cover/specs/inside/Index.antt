@@ -3,7 +3,8 @@ use Rattle.std.specs.Prelude.{◌≡◌, ◌&&◌, Bool, false, not, List}
 use Rattle.std.specs.declared.cmp.Ordering.{Ordering}
 use Rattle.std.specs.List.{count_by, list_any}
 use Rattle.std.specs.List.Sorted.{IsSorted}
-use Rattle.rt_query.specs.Queries.{Query}
+use Rattle.rt_tree.specs.PathTree.{path_eq}
+use Rattle.rt_query.specs.Queries.{Query, is_filtered}
 use Rattle.rt_query.specs.QueryEq.{query_eq}
 use Rattle.rt_query.specs.QueryOrder.{query_cmp}
 use Rattle.rt_query.specs.Ranges.{takes_in}
@@ -33,3 +34,11 @@ is_taker f g = not (query_eq f g) && takes_in f g
 -- none of them takes in another one
 abbrev pub AreApart : {X : Type 0} → (X → Query) → List X → Type 0
 AreApart form xs = list_any (λ x. list_any (λ y. is_taker (form x) (form y)) xs) xs ≡ false
+
+-- whether the one is plain and the other a range of its path
+abbrev pub is_plain_beside : Query → Query → Bool
+is_plain_beside f g = not (is_filtered f) && (is_filtered g && path_eq f.path g.path)
+
+-- no range is at the path of a plain one
+abbrev pub ArePlainsAlone : {X : Type 0} → (X → Query) → List X → Type 0
+ArePlainsAlone form xs = list_any (λ x. list_any (λ y. is_plain_beside (form x) (form y)) xs) xs ≡ false

@@ -2,7 +2,7 @@
 use Rattle.std.specs.Prelude.{◌≡◌, ℕ, List, [], ◌∷◌, map, Some, None, codes}
 use Rattle.rt_tree.specs.Path.{path_keys}
 use Rattle.rt_order.specs.declared.index.Index.{Index}
-use Rattle.rt_query.specs.declared.limit.Limit.TheVariants.{First}
+use Rattle.rt_query.specs.declared.query.Limit.TheVariants.{First}
 use Rattle.rt_query.specs.Drafts.{finished}
 use Rattle.rt_query.specs.Queries.{Query, plain}
 use Rattle.rt_query.specs.Calls.{limited_to}

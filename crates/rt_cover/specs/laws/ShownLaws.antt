@@ -17,7 +17,7 @@ use Rattle.rt_query.specs.Ranges.{takes_in}
 use Rattle.rt_query.specs.Supply.{form, does_supply}
 use Rattle.rt_query.specs.laws.QueryEq.{query_eq_tells}
 use Rattle.rt_query.specs.laws.RangeLaws.{taken_in}
-use Rattle.rt_cover.specs.declared.kept.Kept.{Kept}
+use Rattle.rt_cover.specs.declared.listen.Kept.{Kept}
 use Rattle.rt_cover.specs.Cover.{Registered, Supplies, IsFewest, forms, first_listener, needed, Tagged}
 use Rattle.rt_cover.specs.State.{Cover, needed_forms, shown_with, shown}
 use Rattle.rt_cover.specs.Shown.{AreFewest, IsCertified}

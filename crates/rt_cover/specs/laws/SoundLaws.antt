@@ -14,9 +14,9 @@ use Rattle.rt_query.specs.Queries.{Query}
 use Rattle.rt_query.specs.QueryEq.{query_eq}
 use Rattle.rt_query.specs.Supply.{form}
 use Rattle.rt_query.specs.laws.QueryEq.{query_eq_tells}
-use Rattle.rt_cover.specs.declared.delta.Delta.{Delta}
+use Rattle.rt_cover.specs.declared.change.Delta.{Delta}
 use Rattle.rt_cover.specs.declared.error.CoverError.TheVariants.{UnknownTag}
-use Rattle.rt_cover.specs.declared.kept.Kept.{Kept}
+use Rattle.rt_cover.specs.declared.listen.Kept.{Kept}
 use Rattle.rt_cover.specs.Cover.{Registered, distinct, forms, first_listener, Tagged, is_kept}
 use Rattle.rt_cover.specs.Cover.{started, kept_for}
 use Rattle.rt_cover.specs.State.{Cover, empty_cover, needed_forms, shown_with, with_listener}

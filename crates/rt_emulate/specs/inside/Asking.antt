@@ -24,10 +24,10 @@ use Rattle.rt_hub.specs.Bounded.{bounded}
 use Rattle.rt_hub.specs.Hubs.{Hub, IsHanded, IsMade, IsTaken, TakesText, first_of, line_in, receivers}
 use Rattle.rt_hub.specs.declared.hub.Taken.{Taken}
 use Rattle.rt_hub.specs.declared.hub.Taken.TheVariants.{Message, PassedOver}
-use Rattle.rt_hub.specs.declared.verdict.Verdict.{Verdict}
-use Rattle.rt_hub.specs.declared.verdict.Verdict.TheVariants.{Accepted, Refused, NoRequest}
+use Rattle.rt_hub.specs.declared.refusal.Verdict.{Verdict}
+use Rattle.rt_hub.specs.declared.refusal.Verdict.TheVariants.{Accepted, Refused, NoRequest}
 use Rattle.rt_journal.specs.Journals.{Journal}
-use Rattle.rt_hub.specs.declared.leaving.TheConstants.{TURN_ACTIONS}
+use Rattle.rt_hub.specs.declared.hub.TheConstants.{TURN_ACTIONS}
 use Rattle.rt_http.specs.Answers.{answer_bytes}
 use Rattle.rt_http.specs.Faults.{fault_status, words_of}
 use Rattle.rt_http.specs.Messages.{message_of, object_with, reply_of, wanted_of}
@@ -36,9 +36,9 @@ use Rattle.rt_http.specs.declared.ask.Asked.{Asked}
 use Rattle.rt_http.specs.declared.fault.Fault.{Fault}
 use Rattle.rt_http.specs.declared.fault.Fault.TheVariants.{Host, NoAnswer, NoMemory, Page, TooLarge}
 use Rattle.rt_http.specs.declared.message.Wanted.{Wanted}
-use Rattle.rt_http.specs.declared.status.Status.TheVariants.{Okay}
-use Rattle.rt_emulate.specs.declared.asked.Question.{Question}
-use Rattle.rt_emulate.specs.declared.keys.Keys.{Keys}
+use Rattle.rt_http.specs.declared.answer.Status.TheVariants.{Okay}
+use Rattle.rt_emulate.specs.declared.calls.Question.{Question}
+use Rattle.rt_emulate.specs.declared.edge.Keys.{Keys}
 use Rattle.rt_emulate.specs.inside.Keeping.{note_text}
 
 -- ---- keys

@@ -2,7 +2,7 @@
 use Rattle.std.specs.Prelude.{◌≡◌, ◌==◌, ◌+◌, ◌<◌, nat_lt, sum, if◌then◌else◌, ℕ, Bool, true, false, List, Option, Some, None}
 use Rattle.rt_hub.specs.Hubs.{Hub, IsSlowest, count_of}
 use Rattle.rt_hub.specs.Lines.{bytes_in_all}
-use Rattle.rt_hub.specs.declared.bounds.TheConstants.{MAX_WAITING_IN_ALL}
+use Rattle.rt_hub.specs.declared.refusal.TheConstants.{MAX_WAITING_IN_ALL}
 
 -- from now on so many bytes are on their way to that connection
 abbrev pub Counts : ℕ → ℕ → List ℕ → List ℕ → Type 0

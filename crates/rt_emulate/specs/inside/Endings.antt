@@ -7,9 +7,9 @@ use Rattle.websocket.specs.declared.error.ProtocolError.{ProtocolError}
 use Rattle.websocket.specs.declared.error.ProtocolError.TheVariants.{ResetWithoutClosingHandshake}
 use Rattle.tungstenite.specs.declared.error.Error.{Error}
 use Rattle.tungstenite.specs.declared.error.Error.TheVariants as error
-use Rattle.rt_emulate.specs.declared.broken.Broken.{Broken}
-use Rattle.rt_emulate.specs.declared.broken.Broken.TheVariants.{Stream, Protocol, Utf8, Capacity, Closed, Used}
-use Rattle.rt_emulate.specs.declared.broken.Broken.TheVariants.{Full, Unshaken, Crowded, NoMemory}
+use Rattle.rt_emulate.specs.declared.socket.Broken.{Broken}
+use Rattle.rt_emulate.specs.declared.socket.Broken.TheVariants.{Stream, Protocol, Utf8, Capacity, Closed, Used}
+use Rattle.rt_emulate.specs.declared.socket.Broken.TheVariants.{Full, Unshaken, Crowded, NoMemory}
 use Rattle.rt_emulate.specs.declared.ending.Ending.{Ending}
 use Rattle.rt_emulate.specs.declared.ending.Ending.TheVariants as ends
 

@@ -7,12 +7,12 @@ use Rattle.rt_hub.specs.Hubs.{Hub, has_too_many_in, line_in}
 use Rattle.rt_hub.specs.Handing.{Hands}
 use Rattle.rt_hub.specs.Turns.{HearsTurn}
 use Rattle.rt_hub.specs.declared.door.Flushed.{Flushed}
-use Rattle.rt_hub.specs.declared.hand.Handed.{Handed}
-use Rattle.rt_hub.specs.declared.hand.Handed.TheVariants as hand
-use Rattle.rt_hub.specs.declared.notes.Notes.{Notes}
-use Rattle.rt_hub.specs.declared.take.Turn.{Turn}
-use Rattle.rt_hub.specs.declared.take.Turn.TheVariants as turn
-use Rattle.rt_emulate.specs.declared.asking.Asking.{Asking as Request}
+use Rattle.rt_hub.specs.declared.turn.Handed.{Handed}
+use Rattle.rt_hub.specs.declared.turn.Handed.TheVariants as hand
+use Rattle.rt_hub.specs.declared.hub.Notes.{Notes}
+use Rattle.rt_hub.specs.declared.turn.Turn.{Turn}
+use Rattle.rt_hub.specs.declared.turn.Turn.TheVariants as turn
+use Rattle.rt_emulate.specs.declared.requests.Asking.{Asking as Request}
 use Rattle.rt_emulate.specs.declared.emulator.Emulator.{Emulator}
 use Rattle.rt_emulate.specs.declared.emulator.TheConstants.{LINES_MS}
 use Rattle.rt_emulate.specs.declared.ending.Ending.{Ending}
@@ -24,10 +24,10 @@ use Rattle.rt_emulate.specs.declared.guest.Talk.{Talk}
 use Rattle.rt_emulate.specs.declared.guest.Turned.{Turned}
 use Rattle.rt_emulate.specs.declared.guest.Turned.TheVariants.{Idle, More, Ends}
 use Rattle.rt_emulate.specs.declared.present.Present.{Present}
-use Rattle.rt_emulate.specs.declared.silence.Due.{Due}
-use Rattle.rt_emulate.specs.declared.silence.Due.TheVariants.{End, Ping, Later}
-use Rattle.rt_emulate.specs.declared.silence.Silence.{Silence}
-use Rattle.rt_emulate.specs.declared.silence.TheConstants.{SILENCE_MS}
+use Rattle.rt_emulate.specs.declared.guest.Due.{Due}
+use Rattle.rt_emulate.specs.declared.guest.Due.TheVariants.{End, Ping, Later}
+use Rattle.rt_emulate.specs.declared.guest.Silence.{Silence}
+use Rattle.rt_emulate.specs.declared.guest.TheConstants.{SILENCE_MS}
 use Rattle.rt_emulate.specs.declared.socket.Socket.{Socket}
 use Rattle.rt_emulate.specs.inside.Alarms.{next_time, patience, sooner}
 use Rattle.rt_emulate.specs.inside.Endings.{ending_of, too_much}

@@ -1,18 +1,18 @@
 -- What is noted of requests that were accepted, and of connections that end; why nothing can be.
 use Rattle.std.specs.Prelude.{ℕ, List, [], ◌∷◌, string_bytes, Option, Some, None}
-use Rattle.rt_hub.specs.declared.verdict.When.{When}
-use Rattle.rt_hub.specs.declared.verdict.When.TheVariants.{Now, AtEnd}
+use Rattle.rt_hub.specs.declared.refusal.When.{When}
+use Rattle.rt_hub.specs.declared.refusal.When.TheVariants.{Now, AtEnd}
 use Rattle.rt_journal.specs.Books.{with_end, with_request, with_turn}
 use Rattle.rt_journal.specs.Journals.{Journal}
 use Rattle.rt_journal.specs.declared.book.Noted.{Noted}
 use Rattle.rt_journal.specs.declared.book.Noted.TheVariants as note
-use Rattle.rt_hub.specs.declared.notes.Accepted.{Accepted}
+use Rattle.rt_hub.specs.declared.hub.Accepted.{Accepted}
 use Rattle.rt_journal.specs.declared.fault.JournalFault.{JournalFault}
 use Rattle.rt_emulate.specs.Faults.{of_journal}
 use Rattle.rt_emulate.specs.declared.fault.EmulateFault.{EmulateFault}
 use Rattle.rt_emulate.specs.declared.fault.EmulateFault.TheVariants as emulate
-use Rattle.rt_emulate.specs.declared.halt.Halt.{Halt}
-use Rattle.rt_emulate.specs.declared.halt.Halt.TheVariants as halt
+use Rattle.rt_emulate.specs.declared.settings.Halt.{Halt}
+use Rattle.rt_emulate.specs.declared.settings.Halt.TheVariants as halt
 
 abbrev pub noted_of : When → Noted
 noted_of Now = note.Write

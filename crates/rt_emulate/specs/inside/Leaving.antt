@@ -5,7 +5,7 @@ use Rattle.rt_peer.specs.Runs.{EndSome}
 use Rattle.rt_peer.specs.Turns.{is_last_turn}
 use Rattle.rt_hub.specs.Hubs.{Hub, IsMade}
 use Rattle.rt_journal.specs.Journals.{Journal}
-use Rattle.rt_hub.specs.declared.leaving.TheConstants.{TURN_ACTIONS}
+use Rattle.rt_hub.specs.declared.hub.TheConstants.{TURN_ACTIONS}
 use Rattle.rt_emulate.specs.inside.Keeping.{note_end, note_turn}
 
 -- a turn of a connection's end is noted: its last one as its end

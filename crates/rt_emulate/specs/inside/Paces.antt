@@ -2,9 +2,9 @@
 use Rattle.std.specs.Prelude.{ℕ, ◌-◌, ◌==◌, min, Bool, if◌then◌else◌, Option, Some, None}
 use Rattle.rt_emulate.specs.declared.ending.Ending.{Ending}
 use Rattle.rt_emulate.specs.declared.ending.Ending.TheVariants.{Answered, Stalled, Unshaken}
-use Rattle.rt_emulate.specs.declared.pace.Awaited.{Awaited}
-use Rattle.rt_emulate.specs.declared.pace.Awaited.TheVariants.{Request, Taking, Next, Leaving}
-use Rattle.rt_emulate.specs.declared.pace.TheConstants.{ANSWER_MS, ASK_MS}
+use Rattle.rt_emulate.specs.declared.requests.Awaited.{Awaited}
+use Rattle.rt_emulate.specs.declared.requests.Awaited.TheVariants.{Request, Taking, Next, Leaving}
+use Rattle.rt_emulate.specs.declared.requests.TheConstants.{ANSWER_MS, ASK_MS}
 
 -- for how many milliseconds
 abbrev pub most_of : Awaited → ℕ

@@ -1,6 +1,6 @@
 -- A stream whose first bytes were read before.
 use Rattle.std.specs.Prelude.{◌≡◌, ◌+◌, ℕ, List, [], ◌∷◌, min, nat_lt, if◌then◌else◌, length, take, slice_range, Result, Ok}
-use Rattle.rt_emulate.specs.declared.replay.Replay.{Replay}
+use Rattle.rt_emulate.specs.declared.calls.Replay.{Replay}
 
 -- as many bytes as there is room for
 abbrev pub fits : List ℕ → List ℕ → ℕ

@@ -8,16 +8,16 @@ use Rattle.rt_http.specs.Incomings.{Incoming, is_between, is_none_of}
 use Rattle.rt_http.specs.Messages.{object_with}
 use Rattle.rt_http.specs.Refusals.{refusal_words}
 use Rattle.rt_http.specs.Statuses.{status_of}
-use Rattle.rt_http.specs.declared.refusal.Refusal.{Refusal}
-use Rattle.rt_emulate.specs.declared.asking.Asking.{Asking}
-use Rattle.rt_emulate.specs.declared.asking.Next.{Next as Step}
-use Rattle.rt_emulate.specs.declared.asking.Next.TheVariants as step
-use Rattle.rt_emulate.specs.declared.asking.TheConstants.{DROPPED_BYTES}
-use Rattle.rt_emulate.specs.declared.broken.Broken.{Broken}
+use Rattle.rt_http.specs.declared.fault.Refusal.{Refusal}
+use Rattle.rt_emulate.specs.declared.requests.Asking.{Asking}
+use Rattle.rt_emulate.specs.declared.requests.Next.{Next as Step}
+use Rattle.rt_emulate.specs.declared.requests.Next.TheVariants as step
+use Rattle.rt_emulate.specs.declared.requests.TheConstants.{DROPPED_BYTES}
+use Rattle.rt_emulate.specs.declared.socket.Broken.{Broken}
 use Rattle.rt_emulate.specs.declared.ending.Ending.{Ending}
 use Rattle.rt_emulate.specs.declared.ending.Ending.TheVariants.{Answered, Failed, Stopped}
-use Rattle.rt_emulate.specs.declared.pace.Awaited.{Awaited}
-use Rattle.rt_emulate.specs.declared.pace.Awaited.TheVariants.{Request, Taking, Next, Leaving}
+use Rattle.rt_emulate.specs.declared.requests.Awaited.{Awaited}
+use Rattle.rt_emulate.specs.declared.requests.Awaited.TheVariants.{Request, Taking, Next, Leaving}
 use Rattle.rt_emulate.specs.inside.Endings.{is_interrupted, stream_ending, would_block}
 use Rattle.rt_emulate.specs.inside.Paces.{late_of, left_of}
 

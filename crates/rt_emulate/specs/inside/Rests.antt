@@ -1,6 +1,6 @@
 -- A file that is sent, piece by piece.
 use Rattle.std.specs.Prelude.{◌≡◌, ◌==◌, ◌≤◌, ◌+◌, ◌-◌, ◌||◌, ℕ, min, List, length, Bool, Option, Some, None, if◌then◌else◌}
-use Rattle.rt_emulate.specs.declared.rest.TheConstants.{PIECE_BYTES}
+use Rattle.rt_emulate.specs.declared.site.TheConstants.{PIECE_BYTES}
 use Rattle.rt_emulate.specs.Diaries.{IsBegun}
 
 -- how many bytes are read next, where so many are left

@@ -1,9 +1,9 @@
 -- How long a guest may be silent.
 use Rattle.std.specs.Prelude.{ℕ, ◌-◌, nat_le, if◌then◌else◌, Option, Some, None}
-use Rattle.rt_emulate.specs.declared.silence.Due.{Due}
-use Rattle.rt_emulate.specs.declared.silence.Due.TheVariants.{End, Ping, Later}
-use Rattle.rt_emulate.specs.declared.silence.Silence.{Silence}
-use Rattle.rt_emulate.specs.declared.silence.TheConstants.{SILENCE_MS}
+use Rattle.rt_emulate.specs.declared.guest.Due.{Due}
+use Rattle.rt_emulate.specs.declared.guest.Due.TheVariants.{End, Ping, Later}
+use Rattle.rt_emulate.specs.declared.guest.Silence.{Silence}
+use Rattle.rt_emulate.specs.declared.guest.TheConstants.{SILENCE_MS}
 
 -- what is due once that has been so for that long, else how much longer it may be so
 abbrev pub after : ℕ → Due → Due

@@ -10,8 +10,8 @@ use Rattle.rt_files.specs.Names.{file_of}
 use Rattle.rt_http.specs.declared.fault.Fault.{Fault}
 use Rattle.rt_http.specs.declared.fault.Fault.TheVariants as fault
 use Rattle.rt_http.specs.declared.limits.TheConstants.{MAX_FILE_BYTES}
-use Rattle.rt_http.specs.declared.method.Method.{Method}
-use Rattle.rt_http.specs.declared.method.Method.TheVariants.{Get, Head, Put, Patch, Post, Delete, Options, Other}
+use Rattle.rt_http.specs.declared.head.Method.{Method}
+use Rattle.rt_http.specs.declared.head.Method.TheVariants.{Get, Head, Put, Patch, Post, Delete, Options, Other}
 use Rattle.rt_emulate.specs.declared.site.Course.{Course}
 use Rattle.rt_emulate.specs.declared.site.Course.TheVariants as course
 use Rattle.rt_emulate.specs.declared.site.Folder.{Folder}

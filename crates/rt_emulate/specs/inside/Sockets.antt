@@ -16,8 +16,8 @@ use Rattle.rt_hub.specs.declared.door.Flushed.TheVariants as flush
 use Rattle.rt_hub.specs.declared.door.Heard.{Heard}
 use Rattle.rt_hub.specs.declared.door.Heard.TheVariants as heard
 use Rattle.rt_wire.specs.Crowds.{is_crowded}
-use Rattle.rt_emulate.specs.declared.broken.Broken.{Broken}
-use Rattle.rt_emulate.specs.declared.broken.Broken.TheVariants.{Crowded}
+use Rattle.rt_emulate.specs.declared.socket.Broken.{Broken}
+use Rattle.rt_emulate.specs.declared.socket.Broken.TheVariants.{Crowded}
 use Rattle.rt_emulate.specs.declared.socket.Socket.{Socket}
 use Rattle.rt_emulate.specs.inside.Endings.{broken_of, is_spent, of_stream, would_block}
 

@@ -4,8 +4,8 @@ use Rattle.std.specs.Prelude.{◌≡◌, List, [], ◌∷◌, ℕ, true, false, 
 use Rattle.std.specs.List.{list_all, list_any}
 use Rattle.std.specs.Option.{is_none}
 use Rattle.rt_emulate.specs.Origins.{origin_fault}
-use Rattle.rt_emulate.specs.declared.allowing.OriginFault.TheVariants.{UpperCase, NoScheme, NoHost, Behind}
-use Rattle.rt_emulate.specs.declared.allowing.OriginFault.TheVariants.{BadLetter, BadPort}
+use Rattle.rt_emulate.specs.declared.origins.OriginFault.TheVariants.{UpperCase, NoScheme, NoHost, Behind}
+use Rattle.rt_emulate.specs.declared.origins.OriginFault.TheVariants.{BadLetter, BadPort}
 use Rattle.rt_emulate.specs.Protocols.{is_of_sdk}
 
 abbrev pub app : List ℕ

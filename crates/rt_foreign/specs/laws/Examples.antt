@@ -4,7 +4,7 @@ use Rattle.rt_tree.specs.Leaf.{number, text, truth}
 use Rattle.rt_tree.specs.Path.{path_keys}
 use Rattle.rt_tree.specs.PathTree.{null, of_leaf}
 use Rattle.rt_order.specs.declared.index.Index.TheVariants as index
-use Rattle.rt_query.specs.declared.limit.Limit.TheVariants.{Last}
+use Rattle.rt_query.specs.declared.query.Limit.TheVariants.{Last}
 use Rattle.rt_view.specs.declared.change.Change.TheVariants.{Added, Removed, Value}
 use Rattle.rt_wire.specs.declared.error.WireError.TheVariants.{BadField}
 use Rattle.rt_wire.specs.declared.request.Action.TheVariants.{Put}

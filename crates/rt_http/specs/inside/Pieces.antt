@@ -2,8 +2,8 @@
 use Rattle.std.specs.Prelude.{◌≡◌, ℕ, ◌+◌, ◌≤◌, ◌<◌, List, ◌++◌, length, drop, slice_range}
 use Rattle.httparse.specs.Ascii.{crlf_bytes}
 use Rattle.httparse.specs.Grammar.{Field, HasNoSection, LineEnd, ReadsSection}
-use Rattle.rt_http.specs.declared.chunks.Piece.{Piece}
-use Rattle.rt_http.specs.declared.chunks.Piece.TheVariants.{More, Data, Last}
+use Rattle.rt_http.specs.declared.request.Piece.{Piece}
+use Rattle.rt_http.specs.declared.request.Piece.TheVariants.{More, Data, Last}
 
 -- behind a line that says so many bytes
 abbrev pub IsDataAt : List ℕ → ℕ → ℕ → Piece → Type 0

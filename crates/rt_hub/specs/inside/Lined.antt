@@ -3,7 +3,7 @@ use Rattle.std.specs.Prelude.{◌≡◌, ℕ, Bool, true, false, is_some, List, 
 use Rattle.std.specs.Option.{option_map}
 use Rattle.rt_peer.specs.Peers.{Peer, is_known}
 use Rattle.rt_peer.specs.Runs.{Call}
-use Rattle.rt_hub.specs.declared.bounds.Bounds.{Bounds}
+use Rattle.rt_hub.specs.declared.refusal.Bounds.{Bounds}
 use Rattle.rt_hub.specs.Bounded.{bounded}
 use Rattle.rt_hub.specs.Hubs.{Hub, line_after}
 use Rattle.rt_hub.specs.Lines.{Line, line_of}

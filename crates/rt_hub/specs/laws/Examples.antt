@@ -1,6 +1,6 @@
 -- Rows of lines that the prover computes: bounds of two texts and of five bytes.
 use Rattle.std.specs.Prelude.{◌≡◌, ◌≢◌, false, List, [], ◌∷◌, ℕ, Option, Some, None, codes}
-use Rattle.rt_hub.specs.declared.bounds.Bounds.{Bounds}
+use Rattle.rt_hub.specs.declared.refusal.Bounds.{Bounds}
 use Rattle.rt_hub.specs.Hubs.{waits_for}
 use Rattle.rt_hub.specs.Lines.{Line, bytes_in_all, empty_line, line_of, over_line, with_texts}
 

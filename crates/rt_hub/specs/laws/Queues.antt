@@ -1,6 +1,6 @@
 -- What a connection is given, of any list of calls.
 use Rattle.std.specs.Prelude.{◌≡◌, false, ℕ, List, ◌++◌, Some}
-use Rattle.rt_hub.specs.declared.bounds.Bounds.{Bounds}
+use Rattle.rt_hub.specs.declared.refusal.Bounds.{Bounds}
 use Rattle.rt_hub.specs.Hubs.{Hub}
 use Rattle.rt_hub.specs.Lines.{Line}
 use Rattle.rt_hub.specs.Runs.{Asked, DoesAll, Lasts, Watched, given_all, sent_all, watched_all, watched_in}

@@ -8,11 +8,11 @@ use Rattle.rt_peer.specs.Peers.{Peer, is_denied, is_known}
 use Rattle.rt_peer.specs.Calls.{entries_of, refusal}
 use Rattle.rt_peer.specs.Runs.{Message}
 use Rattle.rt_hub.specs.Bounded.{bar_of, bounded}
-use Rattle.rt_hub.specs.declared.bar.Bar.{Bar}
-use Rattle.rt_hub.specs.declared.verdict.Verdict.{Verdict}
-use Rattle.rt_hub.specs.declared.verdict.Verdict.TheVariants.{Accepted, Refused, NoRequest}
-use Rattle.rt_hub.specs.declared.verdict.When.{When}
-use Rattle.rt_hub.specs.declared.verdict.When.TheVariants.{Now, AtEnd}
+use Rattle.rt_hub.specs.declared.door.Bar.{Bar}
+use Rattle.rt_hub.specs.declared.refusal.Verdict.{Verdict}
+use Rattle.rt_hub.specs.declared.refusal.Verdict.TheVariants.{Accepted, Refused, NoRequest}
+use Rattle.rt_hub.specs.declared.refusal.When.{When}
+use Rattle.rt_hub.specs.declared.refusal.When.TheVariants.{Now, AtEnd}
 use Rattle.rt_hub.specs.Verdicts.{verdict_of}
 
 -- on a request with entries, by why they are refused, if they are

@@ -5,14 +5,14 @@ use Rattle.serde_json.specs.View.{view, members_view}
 use Rattle.serde_json.specs.declared.value.Value.{Value}
 use Rattle.rt_lines.specs.declared.call.Call.{Call as CodeCall}
 use Rattle.rt_lines.specs.declared.call.Call.TheVariants as call_code
-use Rattle.rt_lines.specs.declared.form.Form.{Form as CodeForm}
-use Rattle.rt_lines.specs.declared.form.Form.TheVariants as form_code
+use Rattle.rt_lines.specs.declared.form.LineForm.{LineForm as CodeForm}
+use Rattle.rt_lines.specs.declared.form.LineForm.TheVariants as form_code
 use Rattle.rt_lines.specs.declared.form.PartWords.{PartWords}
 use Rattle.rt_lines.specs.declared.form.Written.{Written as CodeWritten}
 use Rattle.rt_lines.specs.declared.form.Written.TheVariants as written_code
 use Rattle.rt_lines.specs.Calls.{Call}
 use Rattle.rt_lines.specs.Calls as call
-use Rattle.rt_lines.specs.Forms.{Form, Written}
+use Rattle.rt_lines.specs.Forms.{LineForm, Written}
 use Rattle.rt_lines.specs.Forms as form
 
 abbrev pub as_call : CodeCall → Call
@@ -38,7 +38,7 @@ as_part part = (part.tag, members_view part.entries.now.entries)
 abbrev pub as_parts : List PartWords → List (ℕ × Members)
 as_parts parts = map as_part parts
 
-abbrev pub as_form : CodeForm → Form
+abbrev pub as_form : CodeForm → LineForm
 as_form (form_code.Listen seat path calls) = form.Listen seat path.now (as_calls calls.items)
 as_form (form_code.Unlisten seat listener) = form.Unlisten seat listener
 as_form (form_code.Write seat written) = form.Write seat (as_written written)

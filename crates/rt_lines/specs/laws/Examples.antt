@@ -9,9 +9,9 @@ use Rattle.rt_tree.specs.declared.error.TreeError.TheVariants as tree
 use Rattle.rt_order.specs.declared.index.Index.TheVariants as index
 use Rattle.rt_query.specs.declared.error.QueryError.{QueryError}
 use Rattle.rt_query.specs.declared.error.QueryError.TheVariants as query
-use Rattle.rt_query.specs.declared.limit.Limit.TheVariants.{First}
+use Rattle.rt_query.specs.declared.query.Limit.TheVariants.{First}
 use Rattle.rt_query.specs.Queries.{Query, plain}
-use Rattle.rt_cover.specs.declared.kept.Kept.{Kept}
+use Rattle.rt_cover.specs.declared.listen.Kept.{Kept}
 use Rattle.rt_view.specs.declared.change.Change.TheVariants.{Added, Removed}
 use Rattle.rt_wire.specs.declared.error.WireError.TheVariants as wire
 use Rattle.rt_wire.specs.declared.request.Action.TheVariants.{Put, Merge}

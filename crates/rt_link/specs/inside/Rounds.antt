@@ -11,8 +11,8 @@ use Rattle.rt_client.specs.declared.error.ClientError.{ClientError}
 use Rattle.rt_client.specs.declared.error.ClientError.TheVariants as client
 use Rattle.rt_socket.specs.Reading.{ReadsMost, texts_of}
 use Rattle.rt_socket.specs.Wires.{Takes}
-use Rattle.rt_socket.specs.declared.batch.Pause.{Pause}
-use Rattle.rt_socket.specs.declared.batch.Pause.TheVariants as pause
+use Rattle.rt_socket.specs.declared.wire.Pause.{Pause}
+use Rattle.rt_socket.specs.declared.wire.Pause.TheVariants as pause
 use Rattle.rt_socket.specs.declared.wire.Flushed.{Flushed}
 use Rattle.rt_socket.specs.declared.wire.Flushed.TheVariants as flush
 use Rattle.rt_socket.specs.declared.wire.Heard.{Heard}
@@ -21,10 +21,10 @@ use Rattle.rt_link.specs.Taking.{TakesAll, TakesBatch}
 use Rattle.rt_link.specs.Turning.{is_there_more}
 use Rattle.rt_link.specs.declared.error.LinkFault.{LinkFault}
 use Rattle.rt_link.specs.declared.error.LinkFault.TheVariants as fault
-use Rattle.rt_link.specs.declared.taking.Passed.{Passed}
-use Rattle.rt_link.specs.declared.turning.Sent.{Sent}
-use Rattle.rt_link.specs.declared.turning.Sent.TheVariants as sent
-use Rattle.rt_link.specs.declared.turning.TheConstants.{BATCH, ROUNDS}
+use Rattle.rt_link.specs.declared.turn.Passed.{Passed}
+use Rattle.rt_link.specs.declared.turn.SentOff.{SentOff}
+use Rattle.rt_link.specs.declared.turn.SentOff.TheVariants as sent
+use Rattle.rt_link.specs.declared.turn.TheConstants.{BATCH, ROUNDS}
 
 -- why a turn is not made: the client has failed, or memory lacks
 abbrev pub RefusesTurn : LinkFault → Type 0
@@ -50,20 +50,20 @@ pub record HearsTurn (p : Pause) (told : Said) (gave left : Option (List Heard))
 
 -- what is left to be done for a wire by what became of what it has taken: nothing, or why it takes nothing
 -- any more; none where it can be given more
-abbrev pub held_up : Flushed → Option Sent
+abbrev pub held_up : Flushed → Option SentOff
 held_up flush.Done = None
 held_up flush.Blocked = Some sent.Done
 held_up (flush.Failed why) = Some (sent.Lost why)
 
 -- messages are given to a wire, each of them unless it takes nothing any more; there is nothing left to be
 -- done where there are none
-abbrev pub SaysAll : List ClientMessage → Sent → Option (List (List ℕ)) → Option (List (List ℕ)) → Type 0
+abbrev pub SaysAll : List ClientMessage → SentOff → Option (List (List ℕ)) → Option (List (List ℕ)) → Type 0
 SaysAll messages sent.Done had has = (length messages ≡ 0) × (has ≡ had)
 SaysAll messages sent.More had has = (0 < length messages) × Takes had has (texts_of messages)
 SaysAll messages (sent.Lost why) had has = 0 < length messages
 
 -- they are the next messages that the client has to send
-abbrev pub SaysNext : Locked → Sent → Option (List (List ℕ)) → Option (List (List ℕ)) → Type 0
+abbrev pub SaysNext : Locked → SentOff → Option (List (List ℕ)) → Option (List (List ℕ)) → Type 0
 SaysNext old s had has =
     (messages : List ClientMessage) × (new : Locked) × TakesBatch BATCH old messages new
     × SaysAll messages s had has
@@ -75,7 +75,7 @@ RefusesNext old e =
     ⊎ ((e ≡ fault.Client client.NoMemory) ⊎ (e ≡ fault.NoMemory))
 
 -- a round: a wire that is held up is given nothing, and another one the next messages
-abbrev pub SaysRound : Sent → Option (List (List ℕ)) → Option (List (List ℕ)) → Type 0
+abbrev pub SaysRound : SentOff → Option (List (List ℕ)) → Option (List (List ℕ)) → Type 0
 SaysRound s had has =
     ((flushed : Flushed) × (held_up flushed ≡ Some s) × (has ≡ had))
     ⊎ ((old : Locked) × SaysNext old s had has)
@@ -87,7 +87,7 @@ SaysRounds (suc count) had has =
     (mid : Option (List (List ℕ))) × SaysRounds count had mid × SaysRound sent.More mid has
 
 -- and then one that gives none, or to which the wire is lost
-pub record SaysLast (s : Sent) (had has : Option (List (List ℕ))) : Type 0 where
+pub record SaysLast (s : SentOff) (had has : Option (List (List ℕ))) : Type 0 where
   pub count : ℕ
   pub few : count < ROUNDS
   pub mid : Option (List (List ℕ))
@@ -95,15 +95,15 @@ pub record SaysLast (s : Sent) (had has : Option (List (List ℕ))) : Type 0 whe
   pub last : SaysRound s mid has
 
 -- a turn: rounds up to such a one, or as many as are made in one go
-abbrev pub SaysTurn : Sent → Option (List (List ℕ)) → Option (List (List ℕ)) → Type 0
+abbrev pub SaysTurn : SentOff → Option (List (List ℕ)) → Option (List (List ℕ)) → Type 0
 SaysTurn sent.Done had has = SaysLast sent.Done had has
 SaysTurn sent.More had has = (count : ℕ) × (count ≡ ROUNDS) × SaysRounds count had has
 SaysTurn (sent.Lost why) had has = SaysLast (sent.Lost why) had has
 
 -- a turn of a wire of which no more is read for such a cause: nothing is said to one that has ended
-abbrev pub AnswersTurn : Pause → Sent → Option (List (List ℕ)) → Option (List (List ℕ)) → Type 0
+abbrev pub AnswersTurn : Pause → SentOff → Option (List (List ℕ)) → Option (List (List ℕ)) → Type 0
 AnswersTurn pause.Idle s had has = SaysTurn s had has
-AnswersTurn pause.More s had has = (said : Sent) × (s ≡ is_there_more said) × SaysTurn said had has
+AnswersTurn pause.More s had has = (said : SentOff) × (s ≡ is_there_more said) × SaysTurn said had has
 AnswersTurn (pause.Ended why) s had has = (s ≡ sent.Lost why) × (has ≡ had)
 
 abbrev pub RefusesAnswer : Pause → LinkFault → Type 0

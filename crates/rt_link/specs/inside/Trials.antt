@@ -1,13 +1,13 @@
 -- What a seat is where it is settled, and what one trial of a call makes of it.
 use Rattle.std.specs.Prelude.{◌≡◌, ◌≢◌, Option, Some, None}
-use Rattle.rt_world.specs.declared.call.Call.{Call}
+use Rattle.rt_world.specs.declared.step.Call.{Call}
 use Rattle.rt_client.specs.declared.error.ClientError.{ClientError}
 use Rattle.rt_client.specs.declared.error.ClientError.TheVariants as client
 use Rattle.rt_client.specs.Calls.{Locked, Seated}
 use Rattle.rt_client.specs.Settling.{Settles}
 use Rattle.rt_client.specs.Waiting.{IsDone, IsUnmade}
-use Rattle.rt_link.specs.declared.hearing.Tried.{Tried}
-use Rattle.rt_link.specs.declared.hearing.Tried.TheVariants as tried
+use Rattle.rt_link.specs.declared.answers.Tried.{Tried}
+use Rattle.rt_link.specs.declared.answers.Tried.TheVariants as tried
 
 -- the seat is settled, of the locked value that the lock gave
 pub record IsSettled (had left : Seated) : Type 0 where

@@ -15,7 +15,7 @@ use Rattle.rt_view.specs.Views.{View, first_view, renewed, shown_of}
 use Rattle.rt_world.specs.declared.report.Note.{Note}
 use Rattle.rt_world.specs.Met.{renewed_met, told_met}
 use Rattle.rt_world.specs.World.{Listener, Reason}
-use Rattle.rt_parts.specs.declared.held.Held.{Held}
+use Rattle.rt_parts.specs.declared.listeners.Held.{Held}
 use Rattle.rt_parts.specs.Listeners.{cancelled_note, Listeners}
 use Rattle.rt_parts.specs.Refreshed.{count_met, is_supplied_at, renewed_heard, view_heard, view_met}
 use Rattle.rt_parts.specs.Renewed.{count_of, renewed_of, told_of, view_of}

@@ -13,7 +13,7 @@ use Rattle.rt_view.specs.Views.{View}
 use Rattle.rt_world.specs.Touched.{named_by}
 use Rattle.rt_world.specs.World.{Listener}
 use Rattle.rt_query.specs.Queries.{Query}
-use Rattle.rt_parts.specs.declared.held.Held.{Held}
+use Rattle.rt_parts.specs.declared.listeners.Held.{Held}
 use Rattle.rt_parts.specs.declared.places.Place.{Place}
 use Rattle.rt_parts.specs.Refreshed.{FollowsNamed, hears}
 

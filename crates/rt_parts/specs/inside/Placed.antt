@@ -7,7 +7,7 @@ use Rattle.std.specs.Ordering.{nat_cmp, ordering_then}
 use Rattle.std.specs.Prelude.{◌==◌}
 use Rattle.rt_tree.specs.PathTree.{Path, path_cmp, path_eq}
 use Rattle.rt_query.specs.Queries.{Query}
-use Rattle.rt_parts.specs.declared.held.Held.{Held}
+use Rattle.rt_parts.specs.declared.listeners.Held.{Held}
 use Rattle.rt_parts.specs.declared.places.Place.{Place}
 
 -- by path, and of one path by number

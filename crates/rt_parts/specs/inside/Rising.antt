@@ -2,7 +2,7 @@
 use Rattle.std.specs.Prelude.{◌≡◌, ◌<◌, List}
 use Rattle.std.specs.List.{AllPairs}
 use Rattle.rt_writes.specs.Writes.{Write}
-use Rattle.rt_world.specs.declared.request.Request.{Request}
+use Rattle.rt_world.specs.declared.step.Request.{Request}
 use Rattle.rt_world.specs.World.{pending}
 
 -- the requests rise by number, and their writes are pending

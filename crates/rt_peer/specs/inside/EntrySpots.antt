@@ -6,7 +6,7 @@ use Rattle.std.specs.Cmp.{IsTotalOrder, nat_cmp_total, on_total, then_total}
 use Rattle.std.specs.declared.cmp.Ordering.{Ordering}
 use Rattle.rt_tree.specs.PathTree.{Path, path_cmp, paths_total}
 use Rattle.rt_tree.specs.Assignments.{Assignment, is_at_or_above}
-use Rattle.rt_peer.specs.declared.action_place.Place.{Place}
+use Rattle.rt_peer.specs.declared.actions.Place.{Place}
 use Rattle.rt_peer.specs.declared.entry_spots.EntrySpot.{EntrySpot}
 use Rattle.rt_peer.specs.inside.Placed.{has_place, place_cmp, places_total, PlacedActions}
 

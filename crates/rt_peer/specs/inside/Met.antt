@@ -8,8 +8,8 @@ use Rattle.rt_tree.specs.PathTree.{Path, sub}
 use Rattle.rt_tree.specs.Assignments.{Assignment, do_overlap}
 use Rattle.rt_peer.specs.Peers.{Listen, is_at}
 use Rattle.rt_peer.specs.Pushes.{written}
-use Rattle.rt_peer.specs.declared.spots.Owner.{Owner}
-use Rattle.rt_peer.specs.declared.spots.Spot.{Spot}
+use Rattle.rt_peer.specs.declared.listens.Owner.{Owner}
+use Rattle.rt_peer.specs.declared.listens.Spot.{Spot}
 use Rattle.rt_peer.specs.declared.write.Write.{Write}
 use Rattle.rt_peer.specs.inside.Spots.{overlaps, owner_cmp, owner_of}
 

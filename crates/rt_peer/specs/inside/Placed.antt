@@ -13,7 +13,7 @@ use Rattle.rt_peer.specs.Peers.{Deferred}
 use Rattle.rt_writes.specs.Writes.{IsShallow}
 use Rattle.rt_peer.specs.Calls.{is_empty}
 use Rattle.rt_peer.specs.inside.Counts.{AreCountedBy}
-use Rattle.rt_peer.specs.declared.action_place.Place.{Place}
+use Rattle.rt_peer.specs.declared.actions.Place.{Place}
 
 -- by connection, by number, and then by arrival
 abbrev pub place_cmp : Place → Place → Ordering

@@ -1,17 +1,19 @@
 -- Where listens stand by path, and whose listens entries concern.
-use Rattle.std.specs.Prelude.{◌≡◌, Bool, true, ◌&&◌, if◌then◌else◌, nat_lt, length, map, List}
+use Rattle.std.specs.Prelude.{◌≡◌, ℕ, Bool, true, ◌&&◌, if◌then◌else◌, nat_lt, length, map, List, Option, Some, None}
 use Rattle.std.specs.List.{All, list_any}
 use Rattle.std.specs.List.Sorted.{IsStrictlySortedBy}
 use Rattle.std.specs.Map.{keys_of}
 use Rattle.std.specs.Ordering.{nat_cmp, on, then_cmp, is_eq}
 use Rattle.std.specs.Cmp.{IsTotalOrder, nat_cmp_total, on_total, then_total}
 use Rattle.std.specs.declared.cmp.Ordering.{Ordering}
+use Rattle.std.specs.declared.ops.Bound.{Bound}
+use Rattle.std.specs.declared.ops.Bound.TheVariants.{Included, Excluded}
 use Rattle.rt_tree.specs.PathTree.{Path, path_cmp, path_eq, paths_total}
 use Rattle.rt_tree.specs.Assignments.{Assignment, do_overlap, is_at_or_above}
 use Rattle.rt_query.specs.Queries.{Query}
 use Rattle.rt_peer.specs.Peers.{Listen}
-use Rattle.rt_peer.specs.declared.spots.Owner.{Owner}
-use Rattle.rt_peer.specs.declared.spots.Spot.{Spot}
+use Rattle.rt_peer.specs.declared.listens.Owner.{Owner}
+use Rattle.rt_peer.specs.declared.listens.Spot.{Spot}
 
 -- by connection, and then by tag
 abbrev pub owner_cmp : Owner → Owner → Ordering
@@ -86,3 +88,8 @@ AreFound test spots found = All (λ s. test s ≡ true → has_owner found s.own
 -- who was among the first is among the second
 abbrev pub AreKept : List Owner → List Owner → Type 0
 AreKept old new = (o : Owner) → has_owner old o ≡ true → has_owner new o ≡ true
+
+-- from where a connection's listens behind that tag stand by owner
+abbrev pub start_of : ℕ → Option ℕ → Bound Owner
+start_of n None = Included (record { connection = n; tag = 0 })
+start_of n (Some above) = Excluded (record { connection = n; tag = above })

@@ -9,8 +9,8 @@ use Rattle.rt_query.specs.QueryOrder.{query_cmp}
 use Rattle.rt_view.specs.Views.{View}
 use Rattle.rt_peer.specs.Peers.{Listen, is_at}
 use Rattle.rt_peer.specs.Pushes.{seen}
-use Rattle.rt_peer.specs.declared.spots.Owner.{Owner}
-use Rattle.rt_peer.specs.declared.watched.Watched.{Watched}
+use Rattle.rt_peer.specs.declared.listens.Owner.{Owner}
+use Rattle.rt_peer.specs.declared.views.Watched.{Watched}
 use Rattle.rt_peer.specs.inside.Looked.{at_query}
 use Rattle.rt_peer.specs.inside.Spots.{has_owner, is_concerned, owner_of, spot_of}
 

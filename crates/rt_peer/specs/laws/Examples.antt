@@ -10,7 +10,7 @@ use Rattle.rt_wire.specs.declared.request.Asked.TheVariants.{Now, AtDisconnect}
 use Rattle.rt_wire.specs.declared.client.ClientMessage.TheVariants.{Hello, Listen, Ask}
 use Rattle.rt_wire.specs.declared.server.ServerMessage.{ServerMessage}
 use Rattle.rt_wire.specs.declared.server.ServerMessage.TheVariants.{Data, Push, Accepted, Refused, Revoked}
-use Rattle.rt_peer.specs.declared.sent.Sent.{Sent}
+use Rattle.rt_peer.specs.declared.pushes.Sent.{Sent}
 use Rattle.rt_peer.specs.Peers.{Peer, new_peer}
 use Rattle.rt_peer.specs.Runs.{Call, Connect, Message, Disconnect, EndSome, after_all, sent_all}
 use Rattle.rt_peer.specs.laws.Pushed.{as_newer, messages_to}

@@ -7,7 +7,7 @@ use Rattle.rt_order.specs.declared.index.Index.{Index}
 use Rattle.rt_order.specs.Entries.{Entry, entry, entry_cmp}
 use Rattle.rt_order.specs.Cuts.{has}
 use Rattle.rt_order.specs.SortRef.{value_of}
-use Rattle.rt_query.specs.declared.child.Child.{Child}
+use Rattle.rt_query.specs.declared.row.Child.{Child}
 use Rattle.rt_query.specs.declared.row.Row.{Row}
 use Rattle.rt_query.specs.Queries.{Query}
 

@@ -12,7 +12,7 @@ use Rattle.rt_order.specs.Cuts.{has, mark_value}
 use Rattle.rt_order.specs.Entries.{Entry, entry, entry_cmp}
 use Rattle.rt_order.specs.KeyOrder.{key_cmp}
 use Rattle.rt_order.specs.Values.{value_cmp}
-use Rattle.rt_query.specs.declared.bound.Named.{Named}
+use Rattle.rt_query.specs.declared.draft.Named.{Named}
 use Rattle.rt_query.specs.Bounds.{named, bounded, start_at, start_after, end_at, end_before, equal_to}
 use Rattle.rt_tree.specs.PathTree.{PathTree}
 

@@ -10,7 +10,7 @@ use Rattle.rt_query.specs.declared.error.QueryError.TheVariants.{OrderTwice, Sta
 use Rattle.rt_query.specs.declared.error.QueryError.TheVariants.{LimitTwice, LimitZero, NeedsText}
 use Rattle.rt_query.specs.declared.error.QueryError.TheVariants.{KeyNotAllowed, NoOrder}
 use Rattle.rt_query.specs.declared.error.QueryError.TheVariants.{BadBoundKey}
-use Rattle.rt_query.specs.declared.limit.Limit.TheVariants.{First, Last}
+use Rattle.rt_query.specs.declared.query.Limit.TheVariants.{First, Last}
 use Rattle.rt_query.specs.Bounds.{Bound, start_at, start_after, end_at, end_before, equal_to}
 use Rattle.rt_query.specs.Calls.{ordered_by, order_refusal, limited_to, limit_refusal, bounded_by}
 use Rattle.rt_query.specs.Calls.{bound_refusal}

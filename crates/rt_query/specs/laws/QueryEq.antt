@@ -9,8 +9,8 @@ use Rattle.rt_tree.specs.TreeEq.{Tells, tells, both_first, both_second, both, le
 use Rattle.rt_tree.specs.TreeEq.{leaf_eq_tells, tree_eq_tells}
 use Rattle.rt_order.specs.Equality.{index_eq, range_eq}
 use Rattle.rt_order.specs.laws.Equality.{index_eq_tells, range_eq_tells, option_eq_tells}
-use Rattle.rt_query.specs.declared.limit.Limit.{Limit}
-use Rattle.rt_query.specs.declared.limit.Limit.TheVariants.{First, Last}
+use Rattle.rt_query.specs.declared.query.Limit.{Limit}
+use Rattle.rt_query.specs.declared.query.Limit.TheVariants.{First, Last}
 use Rattle.rt_query.specs.QueryEq.{limit_eq, query_eq, row_eq, shown_eq}
 
 same_number : (m n : ℕ) → (m == n) ≡ true → m ≡ n

@@ -17,8 +17,8 @@ use Rattle.rt_order.specs.CutOrder.{cut_cmp}
 use Rattle.rt_order.specs.Equality.{index_eq}
 use Rattle.rt_order.specs.laws.KeyOrder.{first_tied, second_tied}
 use Rattle.rt_order.specs.laws.CutOrder.{cut_cmp_total, cut_cmp-IsAntisymmetric}
-use Rattle.rt_query.specs.declared.limit.Limit.{Limit}
-use Rattle.rt_query.specs.declared.limit.Limit.TheVariants.{First, Last}
+use Rattle.rt_query.specs.declared.query.Limit.{Limit}
+use Rattle.rt_query.specs.declared.query.Limit.TheVariants.{First, Last}
 use Rattle.rt_query.specs.Queries.{Query, is_filtered, most_rows}
 use Rattle.rt_query.specs.QueryEq.{query_eq}
 use Rattle.rt_query.specs.QueryOrder.{index_rank, index_path, index_cmp, limit_rank, limit_cmp, range_cmp, query_cmp, unlimited}

@@ -14,7 +14,7 @@ use Rattle.rt_order.specs.CutOrder.{cut_cmp}
 use Rattle.rt_order.specs.Equality.{index_eq}
 use Rattle.rt_order.specs.laws.Equality.{index_eq_tells}
 use Rattle.rt_order.specs.laws.CutOrder.{cut_cmp_total, cut_cmp-IsAntisymmetric, cut_le-trans, earlier_cuts_have_more}
-use Rattle.rt_query.specs.declared.limit.Limit.{Limit}
+use Rattle.rt_query.specs.declared.query.Limit.{Limit}
 use Rattle.rt_query.specs.Queries.{Query, is_filtered}
 use Rattle.rt_query.specs.Ranges.{is_lower_within, is_upper_within, takes_in}
 use Rattle.rt_query.specs.laws.Ranges.{WiderHasAll, TakesInOnward, TakesInOneWay}

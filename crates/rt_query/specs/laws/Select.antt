@@ -19,8 +19,8 @@ use Rattle.rt_order.specs.declared.index.Index.{Index}
 use Rattle.rt_order.specs.Entries.{Entry, entry, entry_cmp}
 use Rattle.rt_order.specs.declared.cut.Range.{Range}
 use Rattle.rt_order.specs.Cuts.{has, is_after}
-use Rattle.rt_query.specs.declared.limit.Limit.{Limit}
-use Rattle.rt_query.specs.declared.limit.Limit.TheVariants.{First, Last}
+use Rattle.rt_query.specs.declared.query.Limit.{Limit}
+use Rattle.rt_query.specs.declared.query.Limit.TheVariants.{First, Last}
 use Rattle.rt_query.specs.declared.row.Row.{Row}
 use Rattle.rt_query.specs.Queries.{Query, is_filtered}
 use Rattle.rt_query.specs.Select.{sorted_by, limited, row_of, rows_of, select, as_children, tree_by}

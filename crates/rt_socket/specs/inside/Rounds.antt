@@ -1,7 +1,7 @@
 -- What one ask of a wire is to what was read.
 use Rattle.std.specs.Prelude.{◌≡◌, ℕ, Option, Some, None}
-use Rattle.rt_socket.specs.declared.batch.Pause.{Pause}
-use Rattle.rt_socket.specs.declared.batch.Pause.TheVariants as pause
+use Rattle.rt_socket.specs.declared.wire.Pause.{Pause}
+use Rattle.rt_socket.specs.declared.wire.Pause.TheVariants as pause
 use Rattle.rt_socket.specs.declared.wire.Said.{Said}
 use Rattle.rt_socket.specs.declared.wire.Said.TheVariants as said
 

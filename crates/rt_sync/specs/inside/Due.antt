@@ -9,7 +9,7 @@ use Rattle.rt_world.specs.Called.{IsCalled}
 use Rattle.rt_world.specs.Limited.{IsWithin}
 use Rattle.rt_world.specs.Reached.{IsReached}
 use Rattle.rt_world.specs.Sound.{IsSound}
-use Rattle.rt_sync.specs.declared.told.Told.{Told}
+use Rattle.rt_sync.specs.declared.state.Told.{Told}
 
 -- what holds between steps
 pub record IsGood (w : World) : Type 0 where

@@ -9,7 +9,7 @@ use Rattle.rt_query.specs.QueryEq.{query_eq}
 use Rattle.rt_query.specs.Supply.{form}
 use Rattle.rt_cache.specs.Brought.{Brought, Window}
 use Rattle.rt_cache.specs.Recover.{reaches, is_moved}
-use Rattle.rt_cover.specs.declared.delta.Delta.{Delta}
+use Rattle.rt_cover.specs.declared.change.Delta.{Delta}
 use Rattle.rt_cover.specs.Cover.{Registered, Tagged, forms, is_kept}
 use Rattle.rt_cover.specs.State.{Cover, needed_forms, supplier, without_listeners}
 use Rattle.rt_world.specs.World.{Listener, registered, listening}

@@ -12,7 +12,7 @@ use Rattle.rt_query.specs.QueryOrder.{query_cmp}
 use Rattle.rt_cache.specs.Brought.{Brought, source, may_move}
 use Rattle.rt_world.specs.World.{Listener}
 use Rattle.rt_parts.specs.Refreshed.{is_supplied_at}
-use Rattle.rt_sync.specs.declared.steps.moving.Had.{Had}
+use Rattle.rt_sync.specs.declared.steps.losses.Had.{Had}
 
 -- whether one of the forms is of the path
 abbrev pub is_of_path : List Query → Path → Bool

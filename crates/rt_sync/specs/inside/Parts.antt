@@ -1,7 +1,7 @@
 -- What the parts of a step do, said of their values alone.
 use Rattle.std.specs.Prelude.{ℕ, Bool, if◌then◌else◌, List, [], ◌++◌, map}
-use Rattle.rt_cover.specs.declared.delta.Delta.{Delta}
-use Rattle.rt_cover.specs.declared.kept.Kept.{Kept}
+use Rattle.rt_cover.specs.declared.change.Delta.{Delta}
+use Rattle.rt_cover.specs.declared.listen.Kept.{Kept}
 use Rattle.rt_wire.specs.declared.client.ClientMessage.{ClientMessage}
 
 -- the messages that begin these listens

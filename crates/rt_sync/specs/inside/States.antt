@@ -3,7 +3,7 @@ use Rattle.std.specs.Prelude.{◌≡◌}
 use Rattle.rt_world.specs.declared.step.Step.{Step}
 use Rattle.rt_world.specs.Answers.{Answer, step}
 use Rattle.rt_sync.specs.declared.state.State.{State}
-use Rattle.rt_sync.specs.declared.told.Told.{Told}
+use Rattle.rt_sync.specs.declared.state.Told.{Told}
 use Rattle.rt_sync.specs.inside.Due.{IsDue, IsGood, IsNext}
 use Rattle.rt_sync.specs.inside.StateView.{held_of, world_of, IsTied}
 use Rattle.rt_sync.specs.inside.Viewed.{AreViewed, FollowsStep, HasViews}

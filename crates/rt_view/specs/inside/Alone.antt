@@ -7,7 +7,7 @@ use Rattle.rt_order.specs.Entries.{entry}
 use Rattle.rt_query.specs.declared.row.Row.{Row}
 use Rattle.rt_view.specs.declared.change.Change.{Change}
 use Rattle.rt_view.specs.declared.change.Change.TheVariants.{Removed}
-use Rattle.rt_view.specs.declared.kind.Kind.TheVariants.{Added, Moved, Changed}
+use Rattle.rt_view.specs.declared.kinds.Kind.TheVariants.{Added, Moved, Changed}
 use Rattle.rt_view.specs.inside.Given.{row_change}
 use Rattle.rt_view.specs.inside.Windows.{Entries, before}
 

@@ -4,15 +4,15 @@ use Rattle.std.specs.Prelude.{◌≡◌, ◌-◌, ◌++◌, ◌∷◌, [], ℕ, 
 use Rattle.std.specs.List.{AllByRecursion, filter}
 use Rattle.std.specs.Ordering.{is_le}
 use Rattle.rt_chain.specs.Chains.{Chain, all_in, head_or, last_or, slots_of}
-use Rattle.rt_chain.specs.declared.half.Half.{Half}
-use Rattle.rt_chain.specs.declared.half.Half.TheVariants.{Behind, Front}
+use Rattle.rt_chain.specs.declared.chain.Half.{Half}
+use Rattle.rt_chain.specs.declared.chain.Half.TheVariants.{Behind, Front}
 use Rattle.rt_tree.specs.PathTree.{Key, PathTree}
 use Rattle.rt_order.specs.declared.cut.Range.{Range}
 use Rattle.rt_order.specs.Cuts.{has}
 use Rattle.rt_order.specs.Entries.{Entry, entry_cmp}
 use Rattle.rt_query.specs.declared.row.Row.{Row}
 use Rattle.rt_query.specs.Select.{row_of}
-use Rattle.rt_view.specs.declared.known.Child.{Child}
+use Rattle.rt_view.specs.declared.children.Child.{Child}
 use Rattle.rt_view.specs.inside.Halves.{Halved}
 use Rattle.rt_view.specs.inside.Windows.{Entries}
 

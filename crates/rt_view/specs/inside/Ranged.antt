@@ -5,8 +5,8 @@ use Rattle.rt_tree.specs.PathTree.{PathTree}
 use Rattle.rt_order.specs.declared.cut.Range.{Range}
 use Rattle.rt_order.specs.Entries.{Entry}
 use Rattle.rt_order.specs.Cuts.{has}
-use Rattle.rt_query.specs.declared.limit.Limit.{Limit}
-use Rattle.rt_query.specs.declared.limit.Limit.TheVariants.{First, Last}
+use Rattle.rt_query.specs.declared.query.Limit.{Limit}
+use Rattle.rt_query.specs.declared.query.Limit.TheVariants.{First, Last}
 use Rattle.rt_view.specs.inside.Halves.{Halved}
 
 -- the children in a range, and the others

@@ -2,14 +2,14 @@
 use Rattle.std.specs.Prelude.{◌≡◌, Bool, true, false, ◌≤◌, Option, Some, None}
 use Rattle.rt_order.specs.declared.index.Index.{Index}
 use Rattle.rt_order.specs.declared.cut.Cut.{Cut}
-use Rattle.rt_query.specs.declared.limit.Limit.{Limit}
-use Rattle.rt_query.specs.declared.limit.Limit.TheVariants.{First, Last}
+use Rattle.rt_query.specs.declared.query.Limit.{Limit}
+use Rattle.rt_query.specs.declared.query.Limit.TheVariants.{First, Last}
 use Rattle.rt_query.specs.Bounds.{Side, Below, Above, named}
 use Rattle.rt_query.specs.Bounds as bounds
 use Rattle.rt_query.specs.Calls.{first_refusal, naming_conditions}
 use Rattle.rt_query.specs.Drafts.{Draft}
 use Rattle.rt_wire.specs.QueryFields.{may_cut}
-use Rattle.rt_wire.specs.declared.made.Bound.{Bound}
+use Rattle.rt_wire.specs.declared.draft.Bound.{Bound}
 
 -- which side of what is named
 abbrev pub side : Bool → Side

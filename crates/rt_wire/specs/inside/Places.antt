@@ -4,7 +4,7 @@ use Rattle.serde_json.specs.Data.{Data}
 use Rattle.serde_json.specs.View.{view}
 use Rattle.serde_json.specs.declared.value.Value.{Value}
 use Rattle.rt_tree.specs.PathTree.{Path}
-use Rattle.rt_wire.specs.declared.parts.Found.{Found}
+use Rattle.rt_wire.specs.declared.parts.FoundFields.{FoundFields}
 use Rattle.rt_wire.specs.PartFields.{Unread}
 
 -- each path, with the data of its value
@@ -12,5 +12,5 @@ abbrev pub places : List (Path × Value) → List (Path × Data)
 places found = map (λ p. (p.0, view p.1)) found
 
 -- a part, with the data of its values
-abbrev pub unread : Found → Unread
+abbrev pub unread : FoundFields → Unread
 unread f = (f.tag, places f.places.items)

@@ -10,7 +10,7 @@ use Rattle.rt_tree.specs.Assignments.{Assignment}
 use Rattle.rt_order.specs.declared.index.Index.TheVariants as index
 use Rattle.rt_order.specs.declared.cut.Mark.TheVariants as mark
 use Rattle.rt_order.specs.declared.cut.Place.TheVariants.{Before, Max}
-use Rattle.rt_query.specs.declared.limit.Limit.TheVariants.{First}
+use Rattle.rt_query.specs.declared.query.Limit.TheVariants.{First}
 use Rattle.rt_query.specs.Queries.{Query, plain}
 use Rattle.rt_wire.specs.declared.error.WireError.{WireError}
 use Rattle.rt_wire.specs.declared.error.WireError.TheVariants.{NotJson, UnknownKind, BadField, BadTree}

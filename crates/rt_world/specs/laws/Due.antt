@@ -3,7 +3,7 @@ use Rattle.std.specs.Prelude.{◌≡◌, false, [], ◌∷◌, Some, None, codes
 use Rattle.rt_tree.specs.Path.{path_keys}
 use Rattle.rt_tree.specs.PathTree.{object}
 use Rattle.rt_order.specs.declared.index.Index.{Index}
-use Rattle.rt_query.specs.declared.limit.Limit.TheVariants.{First}
+use Rattle.rt_query.specs.declared.query.Limit.TheVariants.{First}
 use Rattle.rt_query.specs.Queries.{Query, plain}
 use Rattle.rt_cache.specs.Brought.{nothing_brought}
 use Rattle.rt_wire.specs.declared.request.Action.TheVariants.{Put}

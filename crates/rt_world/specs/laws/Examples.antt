@@ -4,7 +4,7 @@ use Rattle.rt_tree.specs.Leaf.{number}
 use Rattle.rt_tree.specs.Path.{path_keys}
 use Rattle.rt_tree.specs.PathTree.{null, object}
 use Rattle.rt_order.specs.declared.index.Index.{Index}
-use Rattle.rt_query.specs.declared.limit.Limit.TheVariants.{First, Last}
+use Rattle.rt_query.specs.declared.query.Limit.TheVariants.{First, Last}
 use Rattle.rt_query.specs.Queries.{plain}
 use Rattle.rt_view.specs.declared.change.Change.TheVariants.{Removed, Added, Moved, Changed, Value}
 use Rattle.rt_world.specs.declared.error.CoreError.TheVariants.{BadPush, AlreadyConnected}

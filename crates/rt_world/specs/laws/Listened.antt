@@ -7,7 +7,7 @@ use Rattle.rt_query.specs.Queries.{Query}
 use Rattle.rt_query.specs.Supply.{form}
 use Rattle.rt_cache.specs.Brought.{Brought, with_form}
 use Rattle.rt_cache.specs.Recover.{recover, is_moved}
-use Rattle.rt_cover.specs.declared.delta.Delta.{Delta}
+use Rattle.rt_cover.specs.declared.change.Delta.{Delta}
 use Rattle.rt_cover.specs.State.{Cover, is_registered, difference, added}
 use Rattle.rt_cover.specs.State.{removed, revoked, without_tag, add_fault, remove_fault, revoke_fault}
 use Rattle.rt_wire.specs.declared.client.ClientMessage.{ClientMessage}

@@ -7,8 +7,8 @@ use Rattle.rt_order.specs.declared.index.Index.{Index}
 use Rattle.rt_order.specs.declared.cut.Mark.TheVariants as mark
 use Rattle.rt_order.specs.declared.cut.Place.TheVariants.{Min, Max}
 use Rattle.rt_order.specs.declared.cut.Cut.{Cut}
-use Rattle.rt_query.specs.declared.limit.Limit.{Limit}
-use Rattle.rt_query.specs.declared.limit.Limit.TheVariants.{First, Last}
+use Rattle.rt_query.specs.declared.query.Limit.{Limit}
+use Rattle.rt_query.specs.declared.query.Limit.TheVariants.{First, Last}
 use Rattle.rt_query.specs.Queries.{Query, plain}
 use Rattle.rt_view.specs.declared.change.Change.TheVariants.{Removed, Added, Value}
 use Rattle.rt_wire.specs.declared.client.ClientMessage.{ClientMessage}

@@ -5,11 +5,11 @@ use Rattle.std.specs.Option.{option_and_then}
 use Rattle.rt_tree.specs.Leaf.{LeafValue, truth, number, text}
 use Rattle.rt_tree.specs.PathTree.{Key, Path, PathTree, of_leaf}
 use Rattle.rt_order.specs.declared.index.Index.{Index}
-use Rattle.rt_query.specs.declared.limit.Limit.{Limit}
+use Rattle.rt_query.specs.declared.query.Limit.{Limit}
 use Rattle.rt_query.specs.declared.row.Row.{Row}
 use Rattle.rt_query.specs.Queries.{Query}
 use Rattle.rt_query.specs.Select.{Shown}
-use Rattle.rt_cover.specs.declared.kept.Kept.{Kept}
+use Rattle.rt_cover.specs.declared.listen.Kept.{Kept}
 use Rattle.rt_view.specs.declared.change.Change.{Change}
 use Rattle.rt_world.specs.declared.error.CoreError.{CoreError}
 use Rattle.rt_wire.specs.declared.client.ClientMessage.{ClientMessage}

@@ -11,7 +11,7 @@ use Rattle.rt_cache.specs.Recover.{is_moved}
 use Rattle.rt_cover.specs.Cover.{Tagged}
 use Rattle.rt_view.specs.Views.{with_named}
 use Rattle.rt_world.specs.declared.limits.Limits.{Limits}
-use Rattle.rt_world.specs.declared.request.Request.{Request}
+use Rattle.rt_world.specs.declared.step.Request.{Request}
 use Rattle.rt_world.specs.declared.step.Step.{Step}
 use Rattle.rt_world.specs.Plain.{IsPlainStep, fold_both, writes_by, brought_by}
 use Rattle.rt_world.specs.World.{Listener, World, empty_world, pending}

@@ -10,7 +10,7 @@ use Rattle.rt_wire.specs.declared.request.Asked.TheVariants.{Now, AtDisconnect}
 use Rattle.rt_wire.specs.declared.request.Ending.TheVariants.{Run, Cancel}
 use Rattle.rt_world.specs.declared.error.CoreError.TheVariants.{TooManyRequests, Overlap}
 use Rattle.rt_world.specs.declared.error.CoreError.TheVariants.{EmptyUpdate, TooDeep}
-use Rattle.rt_world.specs.declared.request.Request.{Request}
+use Rattle.rt_world.specs.declared.step.Request.{Request}
 use Rattle.rt_world.specs.World.{World, entries_of}
 use Rattle.rt_world.specs.steps.Kind.{Kind, quiet, stands_too_deep}
 pub use Rattle.rt_wire.specs.Actions.{is_empty_action}

@@ -4,7 +4,7 @@ use Rattle.std.specs.List.{filter}
 use Rattle.std.specs.Option.{option_eq}
 use Rattle.rt_cover.specs.Runs.{Remove}
 use Rattle.rt_world.specs.declared.error.CoreError.TheVariants.{TooManyListeners}
-use Rattle.rt_world.specs.declared.request.Request.{Request}
+use Rattle.rt_world.specs.declared.step.Request.{Request}
 use Rattle.rt_world.specs.World.{World}
 use Rattle.rt_world.specs.steps.Kind.{Kind, quiet}
 

@@ -3,7 +3,7 @@ use Rattle.std.specs.Prelude.{ℕ, Bool, false, List, [], Option, None}
 use Rattle.rt_cover.specs.Runs.{Change}
 use Rattle.rt_wire.specs.declared.request.Asked.{Asked}
 use Rattle.rt_world.specs.declared.error.CoreError.{CoreError}
-use Rattle.rt_world.specs.declared.request.Request.{Request}
+use Rattle.rt_world.specs.declared.step.Request.{Request}
 use Rattle.rt_world.specs.World.{Reason, Listener, World}
 pub use Rattle.rt_wire.specs.Actions.{stands_too_deep}
 pub use Rattle.rt_wire.specs.Parts.{Part}

@@ -1,7 +1,7 @@
 use Rattle.std.proofs.Common.{rules, ◌≡◌, ◌∙◌, ◌<◌, ap, length, get_or, true}
 use Rattle.rt_tree.specs.Assignments.{is_at_or_above}
 use Rattle.rt_cache.specs.Brought.{region_put}
-use Rattle.rt_cache.specs.declared.region.Region.{Region}
+use Rattle.rt_cache.specs.declared.regions.Region.{Region}
 use Rattle.rt_cache.specs.inside.Held.{pair_of}
 use Rattle.rt_cache.proofs.Pushes.{plain_inside, refused_inside, on_ok}
 use Rattle.rt_cache.proofs.brought.put_plain.Goals as goal

@@ -4,7 +4,7 @@ use Rattle.std.proofs.lemmas.List.Elements.{at_read}
 use Rattle.std.specs.Ordering.{is_lt}
 use Rattle.rt_tree.specs.PathTree.{path_cmp}
 use Rattle.rt_tree.specs.Assignments.{is_at_or_above}
-use Rattle.rt_cache.specs.declared.region.Region.{Region}
+use Rattle.rt_cache.specs.declared.regions.Region.{Region}
 use Rattle.rt_cache.proofs.Halves.{above_first}
 use Rattle.rt_cache.proofs.Under.{not_under, not_in_front}
 use Rattle.rt_cache.proofs.regions.first_under.Goals as goal

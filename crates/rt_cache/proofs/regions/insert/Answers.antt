@@ -1,7 +1,7 @@
 use Rattle.std.proofs.Common.{◌≡◌, ◌∙◌, List, ap, sym, subst, rules}
 use lib.Dec.{T}
 use Rattle.std.specs.FinMap as map_of
-use Rattle.rt_cache.specs.declared.region.Region.{Region}
+use Rattle.rt_cache.specs.declared.regions.Region.{Region}
 use Rattle.std.specs.List.{insert, position_or_len}
 use Rattle.std.specs.Ordering.{is_lt}
 use Rattle.rt_tree.specs.PathTree.{path_cmp}

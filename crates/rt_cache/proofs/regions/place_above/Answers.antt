@@ -2,7 +2,7 @@ use Rattle.std.proofs.Common.{rules, ◌≡◌, ◌∙◌, ◌<◌, ◌-◌, ℕ
 use Rattle.std.proofs.lemmas.List.Elements.{at_read}
 use Rattle.rt_tree.specs.PathTree.{strip}
 use Rattle.rt_tree.specs.Assignments.{is_at_or_above}
-use Rattle.rt_cache.specs.declared.region.Region.{Region}
+use Rattle.rt_cache.specs.declared.regions.Region.{Region}
 use Rattle.rt_cache.proofs.Halves.{nowhere}
 use Rattle.rt_cache.proofs.Places.{part_is}
 use Rattle.rt_cache.proofs.Pushes.{part_there}

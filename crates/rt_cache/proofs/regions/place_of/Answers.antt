@@ -1,6 +1,6 @@
 use Rattle.std.proofs.Common.{rules, ◌≡◌, ◌∙◌, ◌<◌, ◌≤◌, ◌+◌, ◌-◌, ◌/◌, ℕ, ap, sym, subst, get_or, true}
 use Rattle.rt_tree.specs.PathTree.{Path}
-use Rattle.rt_cache.specs.declared.region.Region.{Region}
+use Rattle.rt_cache.specs.declared.regions.Region.{Region}
 use Rattle.rt_cache.specs.inside.Shared.{do_share}
 use Rattle.rt_cache.proofs.Sharing.{share_middle}
 use Rattle.rt_cache.proofs.regions.place_of.Goals as goal

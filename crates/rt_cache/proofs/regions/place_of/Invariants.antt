@@ -1,7 +1,7 @@
 use Rattle.std.proofs.Common.{◌≡◌, ℕ, suc, ◌-◌, ◌<◌, ◌≤◌, true, false, length, get_or}
 use Rattle.std.specs.Ordering.{is_lt}
 use Rattle.rt_tree.specs.PathTree.{path_cmp}
-use Rattle.rt_cache.specs.declared.region.Region.{Region}
+use Rattle.rt_cache.specs.declared.regions.Region.{Region}
 use Rattle.rt_cache.specs.inside.Shared.{do_share}
 use Rattle.rt_cache.proofs.regions.place_of.Given as goal
 

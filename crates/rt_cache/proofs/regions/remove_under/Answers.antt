@@ -1,8 +1,8 @@
 use Rattle.std.proofs.Common.{◌≡◌, ◌∙◌, subst, not, List}
 use Rattle.std.specs.List.{filter, remove_range}
 use Rattle.rt_tree.specs.Assignments.{is_at_or_above}
-use Rattle.rt_cache.specs.declared.region.Region.{Region}
-use Rattle.rt_cache.specs.declared.spans.Span.{Span}
+use Rattle.rt_cache.specs.declared.regions.Region.{Region}
+use Rattle.rt_cache.specs.declared.by_path.Span.{Span}
 use Rattle.rt_cache.proofs.InSpans.{one_out}
 use Rattle.rt_cache.proofs.regions.remove_under.Goals as goal
 

@@ -6,8 +6,8 @@ use Rattle.rt_tree.specs.PathTree.{path_cmp, path_eq}
 use Rattle.rt_query.specs.Queries.{Query}
 use Rattle.rt_query.specs.QueryEq.{query_eq}
 use Rattle.rt_query.specs.laws.QueryEq.{query_eq_tells}
-use Rattle.rt_cache.specs.declared.registered.Form.{Form}
-use Rattle.rt_cache.specs.declared.window.Window.{Window}
+use Rattle.rt_cache.specs.declared.forms.Form.{Form}
+use Rattle.rt_cache.specs.declared.windows.Window.{Window}
 use Rattle.rt_cache.specs.inside.Held.{entries_of}
 use Rattle.rt_cache.specs.inside.Listed.{form_query}
 use Rattle.rt_cache.proofs.ByPaths.{before_more, none_of_path_left, fails_before}

@@ -1,7 +1,7 @@
 use Rattle.std.proofs.Common.{◌≡◌, ℕ, ◌-◌, ◌<◌, ◌≤◌, false, length, get_or}
 use Rattle.std.specs.Ordering.{is_lt}
 use Rattle.rt_tree.specs.PathTree.{path_cmp}
-use Rattle.rt_cache.specs.declared.registered.Form.{Form}
+use Rattle.rt_cache.specs.declared.forms.Form.{Form}
 use Rattle.rt_cache.specs.inside.Held.{entries_of}
 use Rattle.rt_cache.proofs.Sources.{has_it}
 use Rattle.rt_cache.proofs.windows.place_of_first.Given as goal

@@ -9,7 +9,7 @@ use Rattle.rt_query.specs.Supply.{does_supply}
 use Rattle.rt_query.specs.laws.QueryEq.{query_eq_tells}
 use Rattle.rt_query.specs.QueryOrder.{query_cmp}
 use Rattle.rt_cache.specs.Recover.{in_query_order}
-use Rattle.rt_cache.specs.declared.window.Window.{Window}
+use Rattle.rt_cache.specs.declared.windows.Window.{Window}
 use Rattle.rt_cache.specs.inside.ByPath.{is_other_supplier}
 use Rattle.rt_cache.specs.inside.Held.{entries_of}
 use Rattle.rt_cache.specs.inside.Listed.{queries_of}

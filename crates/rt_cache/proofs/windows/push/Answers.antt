@@ -1,6 +1,4 @@
-use Rattle.std.proofs.Common.{rules, ◌≡◌, ◌∙◌, ◌||◌, ◌<◌, ℕ, ap, sym, length, get_or, not, true, false, Some, None}
-use Rattle.std.specs.List.{filter}
-use Rattle.rt_query.specs.Supply.{does_supply}
+use Rattle.std.proofs.Common.{rules, ◌≡◌, ◌∙◌, ◌<◌, ℕ, ap, sym, length, get_or, true, false, Some, None}
 use mathlib.Core.Bool.{true≢false}
 use Rattle.std.specs.Option.{option_map_or}
 use Rattle.std.specs.FinMap as map_of
@@ -11,7 +9,7 @@ use Rattle.rt_query.specs.laws.QueryEq.{query_eq_tells}
 use Rattle.rt_query.specs.Queries.{Query}
 use Rattle.rt_query.specs.QueryOrder.{query_cmp}
 use Rattle.rt_cache.specs.Recover.{in_query_order}
-use Rattle.rt_cache.specs.declared.window.Window.{Window}
+use Rattle.rt_cache.specs.declared.windows.Window.{Window}
 use Rattle.rt_cache.specs.inside.ByPath.{query_of}
 use Rattle.rt_cache.specs.inside.Held.{seen_window, entry_of, entries_of}
 use Rattle.rt_cache.proofs.ByQueries.{by_query-set}
@@ -22,9 +20,7 @@ use Rattle.rt_cache.proofs.windows.push.Goals as goal
 pub returns-then-eq-clause-ok : goal.returns-then-eq-clause-ok
 returns-then-eq-clause-ok c =
     let own : path_eq c.args.path.now (c.args.query.now).path ≡ true = search rules in
-    let put : in_query_order (entries_of c.replace.new.windows.items) ≡ map_of.put query_cmp c.args.query.now _ (in_query_order (entries_of c.args.windows.now.items)) = c.in_ok-replace.ensures.ok in
-    c.remove_supplied.ensures.left
-    ∙ ap (filter (λ w. query_eq w.0 c.args.query.now || not (does_supply c.args.query.now w.0))) put
+    c.in_ok-put_whole.ensures.ok
     ∙ sym (pushed_own c.args.query.now c.args.path.now c.args.tree.now (in_query_order (entries_of c.args.windows.now.items)) own)
 
 pub returns-then-eq-clause-taken : goal.returns-then-eq-clause-taken
@@ -99,8 +95,8 @@ returns-clause-taken c =
     taken_some c.args.query.now c.args.path.now (in_query_order (entries_of c.args.windows.now.items)) _ (window_listed c.args.query.now c.args.windows.now.items c.in-Some.place old within first own)
 
 -- a stale push takes no memory: what does is taken
-pub returns-in_err-replace-clause-stale : goal.returns-in_err-replace-clause-stale
-returns-in_err-replace-clause-stale c e =
+pub returns-in_err-put_whole-clause-stale : goal.returns-in_err-put_whole-clause-stale
+returns-in_err-put_whole-clause-stale c e =
     let own : path_eq c.args.path.now (c.args.query.now).path ≡ true = search rules in
     absurd (true≢false (taken_own c.args.query.now c.args.path.now (in_query_order (entries_of c.args.windows.now.items)) own ∙ e))
 

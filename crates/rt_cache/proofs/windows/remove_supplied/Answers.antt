@@ -7,7 +7,7 @@ use Rattle.std.proofs.lemmas.List.Elements.{at_read}
 use Rattle.rt_tree.specs.PathTree.{path_cmp, path_eq}
 use Rattle.rt_query.specs.Queries.{Query}
 use Rattle.rt_query.specs.QueryOrder.{query_cmp}
-use Rattle.rt_cache.specs.declared.window.Window.{Window}
+use Rattle.rt_cache.specs.declared.windows.Window.{Window}
 use Rattle.rt_cache.specs.inside.ByPath.{AreByQuery, query_of, is_other_supplier}
 use Rattle.rt_cache.proofs.Apart.{none_lesser, none_limited}
 use Rattle.rt_cache.proofs.ByPaths.{before_more, none_of_path_left}

@@ -2,8 +2,8 @@ use Rattle.std.proofs.Common.{◌≡◌, ◌∙◌, List, ap, sym, subst, not}
 use Rattle.std.specs.List.{filter, remove_range}
 use Rattle.rt_tree.specs.Assignments.{is_at_or_above}
 use Rattle.rt_cache.specs.Recover.{in_query_order}
-use Rattle.rt_cache.specs.declared.spans.Span.{Span}
-use Rattle.rt_cache.specs.declared.window.Window.{Window}
+use Rattle.rt_cache.specs.declared.by_path.Span.{Span}
+use Rattle.rt_cache.specs.declared.windows.Window.{Window}
 use Rattle.rt_cache.specs.inside.ByPath.{AreByPath, AreByQuery, query_of}
 use Rattle.rt_cache.specs.inside.Held.{entries_of}
 use Rattle.rt_cache.proofs.ByQueries.{by_paths, by_query-filter}

@@ -5,7 +5,7 @@ use Rattle.rt_query.specs.QueryEq.{query_eq}
 use Rattle.rt_query.specs.laws.QueryEq.{query_eq_tells}
 use Rattle.rt_query.specs.QueryOrder.{query_cmp}
 use Rattle.rt_cache.specs.Recover.{in_query_order}
-use Rattle.rt_cache.specs.declared.window.Window.{Window}
+use Rattle.rt_cache.specs.declared.windows.Window.{Window}
 use Rattle.rt_cache.specs.inside.ByPath.{query_of}
 use Rattle.rt_cache.specs.inside.Held.{seen_window, entries_of}
 use Rattle.rt_cache.proofs.ByQueries.{by_query-set}

@@ -3,7 +3,7 @@ use Rattle.std.specs.Prelude.{Bool, option_map}
 use Rattle.std.specs.Option.{option_map_or}
 use Rattle.clap.specs.Words.{Row, found_of, one_of, rows_of}
 use Rattle.rt_emulate.specs.Levels.{level_of}
-use Rattle.rt_emulate.specs.declared.level.Level.{Level}
+use Rattle.rt_emulate.specs.declared.settings.Level.{Level}
 use Rattle.rt_commands.specs.Words.{Gives, flag_of, unnamed_level}
 use Rattle.rt_commands.proofs.words.read_logging.Goals as goal
 

@@ -1,5 +1,5 @@
 use Rattle.std.proofs.Common.{◌≡◌, Ok}
-use Rattle.rt_world.specs.declared.call.Call.TheVariants as call
+use Rattle.rt_world.specs.declared.step.Call.TheVariants as call
 use Rattle.rt_foreign.specs.Status as status
 use Rattle.rt_ffi.proofs.TextsRead.{unlistens}
 use Rattle.rt_ffi.proofs.seat_calls.kw_client_unlisten.Goals as goal

@@ -1,5 +1,5 @@
 use Rattle.rt_http.specs.Answers.{file_fields, line_bytes, line_end}
-use Rattle.rt_http.specs.declared.status.Status.TheVariants.{Okay}
+use Rattle.rt_http.specs.declared.answer.Status.TheVariants.{Okay}
 use Rattle.rt_http.proofs.Puts.{on_ok, three}
 use Rattle.rt_http.proofs.answer.put_file_head.Goals as goal
 

@@ -1,6 +1,6 @@
 use Rattle.std.proofs.Common.{◌≡◌, ◌==◌, get_or, Some, None, sym, rules, ◌∙◌}
 use Rattle.std.specs.List.{position}
-use Rattle.rt_parts.specs.declared.held.Held.{Held}
+use Rattle.rt_parts.specs.declared.listeners.Held.{Held}
 use Rattle.rt_parts.specs.Refreshed.{is_supplied_at}
 use Rattle.rt_writes.specs.laws.Places.{found_at, any_found, any_none}
 use Rattle.rt_parts.proofs.handing.is_supplied.Goals as goal

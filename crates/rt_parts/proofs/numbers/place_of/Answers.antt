@@ -1,6 +1,6 @@
 use Rattle.std.proofs.Common.{◌<◌, length, ltb, arith, ap, sym, ◌∙◌, rules}
 use Rattle.std.proofs.lemmas.List.Sorted.{IsPartitionPoint-from_clause}
-use Rattle.rt_world.specs.declared.request.Request.{Request}
+use Rattle.rt_world.specs.declared.step.Request.{Request}
 use Rattle.rt_writes.specs.laws.Places.{IsBetween, lesser_first, stands, stands_past, stands_not}
 use Rattle.rt_parts.proofs.numbers.place_of.Goals as goal
 

@@ -3,7 +3,7 @@ use mathlib.Core.Bool.{true≢false}
 use Rattle.std.specs.Prelude.{◌==◌}
 use Rattle.std.specs.List.{find, position}
 use Rattle.std.specs.Option.{IsSome, OnSome}
-use Rattle.rt_world.specs.declared.request.Request.{Request}
+use Rattle.rt_world.specs.declared.step.Request.{Request}
 use Rattle.rt_writes.specs.laws.Places.{filter_none_found, found_at, others_left, place_within}
 use Rattle.rt_parts.proofs.numbers.take.Goals as goal
 

@@ -5,7 +5,7 @@ use Rattle.std.proofs.lemmas.List.Quantifiers.{position-Some}
 use Rattle.std.proofs.lemmas.List.{get_or-map, length-map}
 use Rattle.rt_world.specs.declared.report.Note.{Note}
 use Rattle.rt_world.specs.Met.{do_meet}
-use Rattle.rt_parts.specs.declared.held.Held.{Held}
+use Rattle.rt_parts.specs.declared.listeners.Held.{Held}
 use Rattle.rt_parts.specs.inside.HeldView.{IsHeld, counted_of, pair_of, recounted, refreshed}
 use Rattle.rt_parts.specs.Refreshed.{FollowsNamed}
 use Rattle.rt_parts.specs.inside.Pairs.{HasPairs}

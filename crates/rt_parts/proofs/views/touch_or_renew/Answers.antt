@@ -1,7 +1,7 @@
 use Rattle.std.proofs.Common.{◌≡◌, ◌++◌, true, false, OnOk, sym, ap, subst, ◌∙◌, rules}
 use Rattle.std.specs.Option.{option_map_or, option_to_list}
 use Rattle.rt_view.specs.Views.{View, stays_object}
-use Rattle.rt_parts.specs.declared.held.Held.{Held}
+use Rattle.rt_parts.specs.declared.listeners.Held.{Held}
 use Rattle.rt_parts.specs.Listeners.{count_with}
 use Rattle.rt_parts.proofs.PushLaws.{on_ok}
 use Rattle.rt_parts.proofs.ViewLaws.{anew_after, touched_after, touched_renewed, touched_told}

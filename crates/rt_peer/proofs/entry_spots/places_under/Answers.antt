@@ -3,7 +3,7 @@ use Rattle.std.specs.List.{All, filter}
 use Rattle.std.specs.List.Sorted.{IsStrictlySortedBy}
 use Rattle.std.proofs.lemmas.List.Elements.{All-tail}
 use Rattle.std.proofs.lemmas.Map.Keys.{sorted_tail}
-use Rattle.rt_peer.specs.declared.action_place.Place.{Place}
+use Rattle.rt_peer.specs.declared.actions.Place.{Place}
 use Rattle.rt_peer.specs.declared.entry_spots.EntrySpot.{EntrySpot}
 use Rattle.rt_peer.specs.inside.EntrySpots.{entry_spot_cmp, is_under}
 use Rattle.rt_peer.proofs.PlacedLaws.{IsPlaceAdded}

@@ -1,7 +1,7 @@
 use Rattle.std.proofs.Common.{◌≡◌}
 use Rattle.std.specs.List.{All}
 use Rattle.std.specs.List.Sorted.{IsStrictlySortedBy}
-use Rattle.rt_peer.specs.declared.action_place.Place.{Place}
+use Rattle.rt_peer.specs.declared.actions.Place.{Place}
 use Rattle.rt_peer.specs.inside.EntrySpots.{entry_spot_cmp}
 use Rattle.rt_peer.proofs.EntrySpotLaws.{ListsAll, NotInFront}
 use Rattle.rt_peer.proofs.entry_spots.places_under.Given as goal

@@ -3,7 +3,7 @@ use Rattle.std.specs.List.{All}
 use Rattle.std.specs.Map.{keys_of}
 use Rattle.std.proofs.lemmas.List.Elements.{All-head, All-tail}
 use Rattle.rt_peer.specs.Pushes.{pushes}
-use Rattle.rt_peer.specs.declared.spots.Owner.{Owner}
+use Rattle.rt_peer.specs.declared.listens.Owner.{Owner}
 use Rattle.rt_peer.specs.inside.Met.{IsHanded}
 use Rattle.rt_peer.specs.inside.Watched.{AreHeard, AreOf}
 use Rattle.rt_peer.proofs.FoundLaws.{pushes_begun, pushes_more, pushes_done}

@@ -35,26 +35,26 @@ Tree::to_value-returns-in_ok-members-in-Object-clause-value t c =
     view-Object c.in_ok-members-in-Object.members ∙ ap json.object (c.in_ok-members-in-Object.ensures.members)
     ∙ sym (ap data_of (at-Object c.self.view_is c.in-Object.is) ∙ data_of-object _ (kept-Object c.self.invariant c.in-Object.is))
 
-pub writing::members_of-loop-key-init : goal.writing::members_of-loop-key-init
-writing::members_of-loop-key-init t c =
+pub text::members_of-loop-key-init : goal.text::members_of-loop-key-init
+text::members_of-loop-key-init t c =
     let gives : c.into_iter-key-iterator.result ≡ c.args.children.now.entries = c.into_iter-key-iterator.ensures.into_iter_gives.0 in
     subst (λ es. Writing c.into_iter-key-iterator.result (members_view es) c.into_iter-key-iterator.result) (sym c.new-members.ensures.empty)
     (writing_begins _ (subst (λ es. IsStrictlySortedBy key_cmp (keys_of es)) (sym gives) c.requires))
 
-pub writing::members_of-loop-key-preserved : goal.writing::members_of-loop-key-preserved
-writing::members_of-loop-key-preserved t c =
+pub text::members_of-loop-key-preserved : goal.text::members_of-loop-key-preserved
+text::members_of-loop-key-preserved t c =
     let here = subst (Writing c.into_iter-key-iterator.result (members_view c.loop-key.members.entries)) c.in-Some.ensures.steps c.loop-key.invariant in
     writing_goes_on c.into_iter-key-iterator.result (members_view c.loop-key.members.entries) (members_view c.set_member.new.members.entries) c.next.new.self c.in-Some.key.now c.in-Some.child.now here
     (c.in_ok-set_member.ensures ∙ (λ i. put ((c.in_ok-name.ensures.ok ∙ c.text.ensures.text) i) (c.in_ok-value.ensures.value i) (members_view c.loop-key.members.entries)))
     (ap tree_of_data (sym c.in_ok-value.ensures.value) ∙ c.in_ok-value.ensures.same_tree)
 
-pub writing::members_of-returns-clause-members : goal.writing::members_of-returns-clause-members
-writing::members_of-returns-clause-members t c =
+pub text::members_of-returns-clause-members : goal.text::members_of-returns-clause-members
+text::members_of-returns-clause-members t c =
     let gives : c.into_iter-key-iterator.result ≡ c.args.children.now.entries = c.into_iter-key-iterator.ensures.into_iter_gives.0 in
     (writing_ends _ _ (subst (Writing c.into_iter-key-iterator.result (members_view c.loop-key.members.entries)) c.in-None.ensures.steps.0 c.loop-key.invariant)).0 ∙ ap (members_with data_of) gives
 
-pub writing::members_of-returns-clause-same_trees : goal.writing::members_of-returns-clause-same_trees
-writing::members_of-returns-clause-same_trees t c =
+pub text::members_of-returns-clause-same_trees : goal.text::members_of-returns-clause-same_trees
+text::members_of-returns-clause-same_trees t c =
     let gives : c.into_iter-key-iterator.result ≡ c.args.children.now.entries = c.into_iter-key-iterator.ensures.into_iter_gives.0 in
     (writing_ends _ _ (subst (Writing c.into_iter-key-iterator.result (members_view c.loop-key.members.entries)) c.in-None.ensures.steps.0 c.loop-key.invariant)).1 ∙ gives
 

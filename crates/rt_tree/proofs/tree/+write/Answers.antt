@@ -46,11 +46,11 @@ Tree::write-returns-in_ok-begin_object-in-Object-clause-ok t c =
       ap json.object w.4 ∙ ap outline (sym seen),
     )) c.write_children.ensures.ok
 
-pub writing::write_children-loop-key-init : goal.writing::write_children-loop-key-init
-writing::write_children-loop-key-init t c = (refl, [], refl, λ ms reads shallow same. (ms, refl, reads, shallow, same))
+pub text::write_children-loop-key-init : goal.text::write_children-loop-key-init
+text::write_children-loop-key-init t c = (refl, [], refl, λ ms reads shallow same. (ms, refl, reads, shallow, same))
 
-pub writing::write_children-loop-key-preserved : goal.writing::write_children-loop-key-preserved
-writing::write_children-loop-key-preserved t c =
+pub text::write_children-loop-key-preserved : goal.text::write_children-loop-key-preserved
+text::write_children-loop-key-preserved t c =
     let l = c.loop-key in
     let done = l.invariant.1 in
     let k = c.in-Some.key.now in
@@ -74,8 +74,8 @@ writing::write_children-loop-key-preserved t c =
           (ap₂ (json.member k) w.4 same ∙ ap (λ es. members_outline (members_with data_of es)) (sym step))),
     )
 
-pub writing::write_children-returns-clause-ok : goal.writing::write_children-returns-clause-ok
-writing::write_children-returns-clause-ok t c =
+pub text::write_children-returns-clause-ok : goal.text::write_children-returns-clause-ok
+text::write_children-returns-clause-ok t c =
     let l = c.loop-key in
     let done = l.invariant.1 in
     let gives : c.into_iter-key-iterator.result ≡ c.args.children.now.entries = c.into_iter-key-iterator.ensures.into_iter_gives.0 in

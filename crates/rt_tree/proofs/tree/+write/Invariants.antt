@@ -10,8 +10,8 @@ use Rattle.rt_tree.specs.Writing.{members_with, data_of}
 use Rattle.rt_tree.proofs.tree.+write.Given as goal
 
 -- whatever ends the object well from here ends it well from the start
-abbrev pub invariant-writing::write_children-loop-key : goal.invariant-writing::write_children-loop-key
-invariant-writing::write_children-loop-key l =
+abbrev pub invariant-text::write_children-loop-key : goal.invariant-text::write_children-loop-key
+invariant-text::write_children-loop-key l =
     let all = members_with data_of l.initial.key-iterator in
     (l.out.before ≡ l.initial.out.before) × (done : List (Key × PathTree)) × (l.initial.key-iterator ≡ done ++ l.key-iterator)
     × ((ms : json.Members) → of_members ms (members_with data_of done) ≡ Some all → text.members_depth ms ≤ members_depth (members_with data_of l.key-iterator)

@@ -3,7 +3,7 @@ use Rattle.std.specs.List.{list_any, All}
 use Rattle.rt_query.specs.Queries.{is_filtered}
 use Rattle.rt_query.specs.Supply.{does_supply}
 use Rattle.rt_cache.specs.Brought.{region_part, knows}
-use Rattle.rt_cache.specs.declared.window.Window.{Window}
+use Rattle.rt_cache.specs.declared.windows.Window.{Window}
 use Rattle.rt_cache.specs.inside.ByPath.{AreApart, query_of}
 use Rattle.rt_cache.specs.inside.Held.{pairs_of, held}
 use Rattle.rt_cache.proofs.Apart.{windows_apart}

@@ -3,7 +3,7 @@ use Rattle.std.specs.List.{list_any}
 use Rattle.std.specs.FinMap as map_of
 use Rattle.rt_query.specs.QueryOrder.{query_cmp}
 use Rattle.rt_cache.specs.Brought.{is_another_at, may_move}
-use Rattle.rt_cache.specs.declared.window.Window.{Window}
+use Rattle.rt_cache.specs.declared.windows.Window.{Window}
 use Rattle.rt_cache.specs.inside.Held.{entries_of}
 use Rattle.rt_cache.proofs.Bases.{may_found, limited_stays}
 use Rattle.rt_cache.proofs.brought.Brought.may_move.Goals as goal

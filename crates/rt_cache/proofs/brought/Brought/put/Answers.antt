@@ -8,6 +8,9 @@ use Rattle.rt_cache.proofs.Levels.{filtered_fits, plain_fits}
 use Rattle.rt_cache.proofs.Pushes.{filtered_stays, plain_stays}
 use Rattle.rt_cache.proofs.brought.Brought.put.Goals as goal
 
+pub push-requires-clause-apart : goal.push-requires-clause-apart
+push-requires-clause-apart c = (c.self.invariant.3).apart
+
 pub invariant_of-self : goal.invariant_of-self
 invariant_of-self c =
     let filtered : is_filtered c.args.query.now ≡ true = search rules in

@@ -1,7 +1,7 @@
 use Rattle.std.proofs.Common.{rules, ◌≡◌, ◌∙◌, ap, sym, subst, is_some, true, false, Some, None, List, get_or}
 use Rattle.rt_cache.specs.Brought.{region_part, source}
 use Rattle.rt_cache.specs.Recover.{in_query_order}
-use Rattle.rt_cache.specs.declared.window.Window.{Window}
+use Rattle.rt_cache.specs.declared.windows.Window.{Window}
 use Rattle.rt_cache.specs.inside.Held.{pairs_of, entries_of, held}
 use Rattle.rt_cache.specs.inside.Sources.{source_among, HaveForms}
 use Rattle.rt_cache.proofs.Bases.{source_none, source_found}

@@ -2,8 +2,8 @@ use Rattle.std.proofs.Common.{◌≡◌, ℕ, cond, Some, None, ap, sym, ◌∙�
 use Rattle.std.specs.Option.{option_and_then, option_copied, option_map}
 use Rattle.rt_chain.specs.Chains.{Chain, below, in_half, is_half, last_in}
 use Rattle.rt_chain.specs.inside.Links.{value_in}
-use Rattle.rt_chain.specs.declared.half.Half.{Half}
-use Rattle.rt_chain.specs.declared.half.Half.TheVariants.{Front}
+use Rattle.rt_chain.specs.declared.chain.Half.{Half}
+use Rattle.rt_chain.specs.declared.chain.Half.TheVariants.{Front}
 use Rattle.rt_chain.proofs.Looks.{answered, before_step}
 use Rattle.rt_chain.proofs.chain.Chain.before.Goals as goal
 

@@ -2,7 +2,7 @@ use Rattle.std.proofs.Common.{ap, sym, subst, ◌∙◌}
 use Rattle.rt_chain.specs.Chains.{Chain, all_in}
 use Rattle.std.specs.Option.{option_map}
 use Rattle.rt_chain.specs.Chains.{IsOther, slots_of}
-use Rattle.rt_chain.specs.declared.node.Node.{Node}
+use Rattle.rt_chain.specs.declared.linked_map.Node.{Node}
 use Rattle.rt_chain.proofs.Spots.{no_slot}
 use Rattle.rt_chain.proofs.Looks.{value_at}
 use Rattle.rt_chain.proofs.chain.Chain.get.Goals as goal

@@ -1,7 +1,7 @@
 use Rattle.std.proofs.Common.{◌≡◌, Some, None, ap, sym, subst, ◌∙◌, rules}
 use Rattle.std.specs.Option.{option_map}
 use Rattle.rt_chain.specs.Chains.{Chain, IsOther, all_in, slots_of}
-use Rattle.rt_chain.specs.declared.node.Node.{Node}
+use Rattle.rt_chain.specs.declared.linked_map.Node.{Node}
 use Rattle.rt_chain.proofs.Spots.{behind_mark, front_mark, no_slot}
 use Rattle.rt_chain.proofs.chain.Chain.half.Goals as goal
 

@@ -2,7 +2,7 @@ use Rattle.std.proofs.Common.{ap, sym, subst, ◌∙◌}
 use Rattle.rt_chain.specs.Chains.{Chain, all_in}
 use Rattle.std.specs.Option.{option_and_then}
 use Rattle.rt_chain.specs.Chains.{IsOther, slots_of}
-use Rattle.rt_chain.specs.declared.node.Node.{Node}
+use Rattle.rt_chain.specs.declared.linked_map.Node.{Node}
 use Rattle.rt_chain.proofs.Spots.{no_slot}
 use Rattle.rt_chain.proofs.Looks.{next_of}
 use Rattle.rt_chain.proofs.chain.Chain.next.Goals as goal

@@ -6,8 +6,8 @@ use Rattle.rt_chain.specs.Chains.{Chain, all_in, half_at, in_half}
 use Rattle.rt_chain.specs.inside.Links.{is_marked, value_in}
 use Rattle.rt_chain.specs.inside.Places.{IsPlace}
 use Rattle.rt_chain.specs.inside.Halves.{chain_of, half_by, is_behind, is_front}
-use Rattle.rt_chain.specs.declared.half.Half.{Half}
-use Rattle.rt_chain.specs.declared.half.Half.TheVariants.{Front, Behind}
+use Rattle.rt_chain.specs.declared.chain.Half.{Half}
+use Rattle.rt_chain.specs.declared.chain.Half.TheVariants.{Front, Behind}
 use Rattle.rt_chain.proofs.Halves.{Put}
 use Rattle.rt_chain.proofs.Sides.{half_new, half_there}
 use Rattle.rt_chain.proofs.Spots.{none_found, none_if, none_in, on_err, slot_found, slot_if, stands_in, value_found}

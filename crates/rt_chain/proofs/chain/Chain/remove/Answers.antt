@@ -7,9 +7,9 @@ use Rattle.slab.specs.Slab.{get}
 use Rattle.rt_chain.specs.Chains.{Chain, all_in, is_half}
 use Rattle.rt_chain.specs.inside.Links.{Linked, KeepsOthers, is_marked, value_in}
 use Rattle.rt_chain.specs.inside.Halves.{IsCut, chain_of, half_by, is_behind, is_front}
-use Rattle.rt_chain.specs.declared.half.Half.{Half}
-use Rattle.rt_chain.specs.declared.half.Half.TheVariants.{Front, Behind}
-use Rattle.rt_chain.specs.declared.node.Node.{Node}
+use Rattle.rt_chain.specs.declared.chain.Half.{Half}
+use Rattle.rt_chain.specs.declared.chain.Half.TheVariants.{Front, Behind}
+use Rattle.rt_chain.specs.declared.linked_map.Node.{Node}
 use Rattle.rt_chain.proofs.Cutting.{next_in, previous_in}
 use Rattle.rt_chain.proofs.Halves.{Taken}
 use Rattle.rt_chain.proofs.Spots.{behind_whole, bound, front_whole, no_place, none_found, none_whole, value_found}

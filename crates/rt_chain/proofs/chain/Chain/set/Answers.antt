@@ -1,7 +1,7 @@
 use Rattle.std.proofs.Common.{ap, sym, subst, ◌∙◌}
 use Rattle.std.specs.Option.{option_map}
 use Rattle.rt_chain.specs.Chains.{Chain, IsOther, all_in, slots_of, with_value}
-use Rattle.rt_chain.specs.declared.node.Node.{Node}
+use Rattle.rt_chain.specs.declared.linked_map.Node.{Node}
 use Rattle.rt_chain.proofs.Looks.{value_at}
 use Rattle.rt_chain.proofs.Spots.{no_slot, value_step}
 use Rattle.rt_chain.proofs.chain.Chain.set.Goals as goal

@@ -4,7 +4,7 @@ use Rattle.slab.specs.Slab.{get}
 use Rattle.rt_chain.specs.Chains.{head_or, last_or}
 use Rattle.rt_chain.specs.inside.Links.{Linked}
 use Rattle.rt_chain.specs.inside.Places.{IsPlace}
-use Rattle.rt_chain.specs.declared.linked_map.Place.TheVariants.{After}
+use Rattle.rt_chain.specs.declared.linked_map.KeyPlace.TheVariants.{After}
 use Rattle.rt_chain.proofs.Kept.{inserted, next_none, next_some, same_nodes, undone}
 use Rattle.rt_chain.proofs.linked_map.LinkedMap.insert.Goals as goal
 use Rattle.rt_chain.proofs.linked_map.LinkedMap.insert.Goals.{in-Some, in-None}

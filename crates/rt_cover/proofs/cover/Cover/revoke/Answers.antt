@@ -1,6 +1,6 @@
 use Rattle.std.proofs.Common.{◌≡◌, ◌==◌, ℕ, not, inl, sym, ap, subst, ◌∙◌}
 use Rattle.std.specs.List.{filter}
-use Rattle.rt_cover.specs.declared.delta.Delta.{Delta}
+use Rattle.rt_cover.specs.declared.change.Delta.{Delta}
 use Rattle.rt_cover.specs.State.{Cover, with_listeners, lacks_tag, difference, revoked, without_tag}
 use Rattle.rt_cover.specs.Shown.{IsTold}
 use Rattle.rt_cover.specs.laws.SoundLaws.{is_told_without}

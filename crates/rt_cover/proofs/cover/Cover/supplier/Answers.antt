@@ -3,12 +3,19 @@ use Rattle.std.specs.List.{list_any, All}
 use Rattle.rt_query.specs.Supply.{does_supply}
 use Rattle.rt_cover.specs.Cover.{Tagged}
 use Rattle.rt_cover.specs.State.{supplier}
+use Rattle.rt_cover.specs.inside.Index.{form_of, ArePlainsAlone}
 use Rattle.rt_cover.specs.inside.Least.{IsPlainOrLeast}
 use Rattle.rt_cover.specs.inside.Sound.{IsSound}
 use Rattle.rt_cover.specs.Shown.{IsLeastSupplier}
 use Rattle.rt_cover.proofs.ListenLaws.{supplier_is}
+use Rattle.rt_cover.proofs.SuppliedLaws.{kept_plains_alone}
 use Rattle.rt_cover.proofs.SupplierLaws.{first_is_least, none_supplies}
 use Rattle.rt_cover.proofs.cover.Cover.supplier.Goals as goal
+
+pub supplier-requires : goal.supplier-requires
+supplier-requires c =
+    subst (ArePlainsAlone form_of) (λ i. (sym c.self.view_is i).kept)
+    (kept_plains_alone c.args.self.now (subst IsSound c.self.view_is c.self.invariant))
 
 pub returns-clause-exact : goal.returns-clause-exact
 returns-clause-exact c =

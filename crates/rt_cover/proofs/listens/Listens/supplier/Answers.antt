@@ -3,10 +3,19 @@ use Rattle.std.specs.List.{list_any}
 use Rattle.rt_query.specs.Queries.{is_filtered}
 use Rattle.rt_query.specs.Supply.{does_supply}
 use Rattle.rt_cover.specs.Cover.{Tagged}
+use Rattle.rt_cover.specs.inside.Index.{form_of, ArePlainsAlone}
 use Rattle.rt_cover.specs.inside.Least.{IsPlainOrLeast}
 use Rattle.rt_cover.proofs.CountLaws.{same_any}
 use Rattle.rt_cover.proofs.ListenLaws.{if_some, if_none}
+use Rattle.rt_cover.proofs.SuppliedLaws.{alone_fewer, any_same}
 use Rattle.rt_cover.proofs.listens.Listens.supplier.Goals as goal
+
+pub supplier-requires-clause-alone : goal.supplier-requires-clause-alone
+supplier-requires-clause-alone c =
+    let old = c.self.inside.by_path.items in
+    let ks = c.self.inside.by_tag.items in
+    subst (ArePlainsAlone form_of) (sym c.deref.ensures.value)
+    (alone_fewer form_of ks old (any_same ks old c.self.invariant.same) (subst (ArePlainsAlone form_of) (sym c.self.view_is) c.requires))
 
 pub returns-clause-some : goal.returns-clause-some
 returns-clause-some c =

@@ -17,7 +17,7 @@ use denote.RawPtr.{block_ptr}
 use denote.Steps.{nothing}
 use denote.Triple.Walked.{Stays, stay_dropped, walk_of, Goes-dropped}
 use Rattle.std.proofs.raw_atomic.Walks.{proved_at, leaves}
-use Rattle.rt_foreign.proofs.Handles.{both, both_good, Parts, parts_out, loose_in}
+use Rattle.rt_foreign.proofs.Handles.{both, both_good, BoxParts, parts_out, loose_in}
 use Rattle.rt_foreign.specs.contracts.handle.Loose.of as F
 use Rattle.rt_foreign.proofs.handle.Loose.of.Statement.{statement}
 use Rattle.rt_foreign.proofs.handle.Loose.of.Code as code
@@ -25,8 +25,8 @@ use Rattle.rt_foreign.proofs.handle.Loose.of.Code as code
 pub of_spec : {M : Type 1} → statement M
 of_spec 𝓤 𝓛 𝓜 𝓡 wired =
     let H = 𝓛.H in let 𝓣 = tables 𝓤 H 𝓜 𝓡 𝓡.env in let c = F.clauses 𝓛 𝓜.mem 𝓡.returns in let fn = code.function in
-    let hs : Stays F.ended.signature.params F.ended.kept = (stay_dropped (plain (λ _. Parts)) yes, tt) in
-    proved_at 𝓛 F.ended hs c 𝓜 𝓡 (Goes-dropped 𝓛 0 (plain (λ _. Parts)) yes (λ κs x f. refl), tt) F.Key.name fn (code.unfolded 𝓤 H 𝓜 𝓡 wired) (λ z are.
+    let hs : Stays F.ended.signature.params F.ended.kept = (stay_dropped (plain (λ _. BoxParts)) yes, tt) in
+    proved_at 𝓛 F.ended hs c 𝓜 𝓡 (Goes-dropped 𝓛 0 (plain (λ _. BoxParts)) yes (λ κs x f. refl), tt) F.Key.name fn (code.unfolded 𝓤 H 𝓜 𝓡 wired) (λ z are.
     let d = z.0.3.0 in let a = d.alloc in let Post : Val → SProp 𝓤 = (walk_of 𝓛 F.ended hs c).post z in let Run : List Val → SProp 𝓤 = λ ws. WpFn 𝓤 H 𝓣.C 𝓣.Λ fn ws Post in
     qed 𝓛 ((‵ ftrue ⊛ ‵ (owns (types_at F.ended.signature.params z.0.0) z.0.3 z.0.4)) ∷ raw ((c z.0.0 z.0.3).requires z.1) ∷ []) ∵ split ! $ move ! (1 ∷ []) $ fsplit ! $ parts_out ! d z.0.4.0 (λ b o h e ws fits.
     let w : Val = both (vptr b o) h in let typed = both_good b o h fits in

@@ -1,5 +1,5 @@
 use Rattle.std.proofs.Common.{subst, sym}
-use Rattle.rt_link.specs.declared.hearing.Tried.{Tried}
+use Rattle.rt_link.specs.declared.answers.Tried.{Tried}
 use Rattle.rt_link.specs.inside.Trials.{Tries}
 use Rattle.rt_link.proofs.Told.{tried_again}
 use Rattle.rt_link.proofs.linked.Linked.try_once.Goals as goal

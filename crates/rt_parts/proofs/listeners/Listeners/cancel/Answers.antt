@@ -4,7 +4,7 @@ use Rattle.rt_query.specs.QueryEq.{query_eq}
 use Rattle.rt_query.specs.Supply.{form}
 use Rattle.rt_world.specs.World.{Listener}
 use Rattle.rt_parts.specs.Listeners.{cancelled_note, counts_left, views_left}
-use Rattle.rt_parts.specs.declared.held.Held.{Held}
+use Rattle.rt_parts.specs.declared.listeners.Held.{Held}
 use Rattle.rt_parts.specs.inside.HeldView.{counts_of, views_of, ended_among, HaveForm, listeners_of}
 use Rattle.rt_parts.specs.inside.Placed.{IsIndex}
 use Rattle.rt_parts.proofs.Counts.{counts_filter}

@@ -6,7 +6,7 @@ use Rattle.rt_query.specs.Queries.{Query}
 use Rattle.rt_tree.specs.Assignments.{Assignment}
 use Rattle.rt_writes.specs.Writes.{Write}
 use Rattle.rt_cache.specs.Brought.{Brought}
-use Rattle.rt_parts.specs.declared.held.Held.{Held}
+use Rattle.rt_parts.specs.declared.listeners.Held.{Held}
 use Rattle.rt_parts.specs.inside.Pairs.{AreHanded, AreUp}
 use Rattle.rt_parts.specs.inside.Placed.{IsIndex}
 use Rattle.rt_parts.specs.Listeners.{Listeners}

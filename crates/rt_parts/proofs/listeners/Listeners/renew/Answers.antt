@@ -7,7 +7,7 @@ use Rattle.rt_query.specs.Queries.{Query}
 use Rattle.rt_query.specs.QueryOrder.{query_cmp}
 use Rattle.rt_cache.specs.Recover.{is_among}
 use Rattle.rt_world.specs.declared.report.Note.{Note}
-use Rattle.rt_parts.specs.declared.held.Held.{Held}
+use Rattle.rt_parts.specs.declared.listeners.Held.{Held}
 use Rattle.rt_parts.specs.declared.places.Place.{Place}
 use Rattle.rt_parts.specs.inside.Placed.{HaveNumbers, IsIndex}
 use Rattle.rt_parts.specs.Listeners.{Listeners}

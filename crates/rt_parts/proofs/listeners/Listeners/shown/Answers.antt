@@ -3,7 +3,7 @@ use Rattle.std.specs.List.{find}
 use Rattle.std.specs.Option.{option_and_then}
 use Rattle.rt_world.specs.Answers.{view_before}
 use Rattle.rt_world.specs.World.{Listener}
-use Rattle.rt_parts.specs.declared.held.Held.{Held}
+use Rattle.rt_parts.specs.declared.listeners.Held.{Held}
 use Rattle.rt_parts.specs.inside.HeldView.{shown_in}
 use Rattle.rt_parts.proofs.HeldLaws.{none_held, none_seen, view_held}
 use Rattle.rt_parts.proofs.listeners.Listeners.shown.Goals as goal

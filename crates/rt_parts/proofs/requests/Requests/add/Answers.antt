@@ -1,7 +1,7 @@
 use Rattle.std.proofs.Common.{◌≡◌, ◌<◌, ◌++◌, ◌∷◌, [], Some, subst, sym, ap, ◌∙◌, rules}
 use Rattle.std.specs.List.{All}
 use Rattle.rt_writes.specs.Writes.{Write}
-use Rattle.rt_world.specs.declared.request.Request.{Request}
+use Rattle.rt_world.specs.declared.step.Request.{Request}
 use Rattle.rt_parts.proofs.Pendings.{writes_below, pending_with}
 use Rattle.rt_parts.proofs.Rises.{rises_with}
 use Rattle.rt_parts.specs.inside.Rising.{IsTied}

@@ -1,7 +1,7 @@
 use Rattle.std.proofs.Common.{◌≡◌, ◌==◌, ◌∙◌, rules}
 use Rattle.std.specs.Prelude.{is_some}
 use Rattle.std.specs.List.{position}
-use Rattle.rt_world.specs.declared.request.Request.{Request}
+use Rattle.rt_world.specs.declared.step.Request.{Request}
 use Rattle.rt_writes.specs.laws.Places.{is_some_place}
 use Rattle.rt_parts.proofs.Rises.{is_found}
 use Rattle.rt_parts.proofs.requests.Requests.is_unsettled.Goals as goal

@@ -1,7 +1,7 @@
 use Rattle.std.proofs.Common.{◌≡◌, ◌==◌, None, ap, ◌∙◌, rules, not}
 use Rattle.std.specs.List.{filter, find}
 use Rattle.rt_writes.specs.Writes.{entries_of, without}
-use Rattle.rt_world.specs.declared.request.Request.{Request}
+use Rattle.rt_world.specs.declared.step.Request.{Request}
 use Rattle.rt_parts.proofs.Pendings.{none_pending}
 use Rattle.rt_parts.proofs.Rises.{tied_without}
 use Rattle.rt_parts.proofs.requests.Requests.settle.Goals as goal

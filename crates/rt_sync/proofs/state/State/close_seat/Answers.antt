@@ -9,7 +9,7 @@ use Rattle.rt_world.specs.Covering.{cover_in}
 use Rattle.rt_world.specs.steps.Closing.{numbers_of}
 use Rattle.rt_parts.specs.Renewed.{all_told_of, renewed_of}
 use Rattle.rt_sync.specs.declared.state.State.{State}
-use Rattle.rt_sync.specs.declared.told.Told.{Told}
+use Rattle.rt_sync.specs.declared.state.Told.{Told}
 use Rattle.rt_sync.specs.inside.Losing.{AreMoved, forms_at, HasLost}
 use Rattle.rt_sync.specs.inside.StateView.{held_of, world_of}
 use Rattle.rt_sync.proofs.Listened.{close_just, close_made, closed_is, IsJust, left_views, tied_next}

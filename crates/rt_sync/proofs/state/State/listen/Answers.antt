@@ -9,7 +9,7 @@ use Rattle.rt_world.specs.Covering.{cover_in}
 use Rattle.rt_world.specs.After.{renewed}
 use Rattle.rt_world.specs.Met.{told}
 use Rattle.rt_sync.specs.declared.state.State.{State}
-use Rattle.rt_sync.specs.declared.told.Told.{Told}
+use Rattle.rt_sync.specs.declared.state.Told.{Told}
 use Rattle.rt_sync.specs.inside.StateView.{world_of}
 use Rattle.rt_sync.proofs.Listened.{added_is, listen_made, tied_next}
 use Rattle.rt_sync.proofs.TagLaws.{cover_tied}

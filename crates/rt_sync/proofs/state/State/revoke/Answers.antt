@@ -11,7 +11,7 @@ use Rattle.rt_world.specs.declared.step.Step.{Step}
 use Rattle.rt_world.specs.World.{Listener}
 use Rattle.rt_world.specs.steps.Revoking.{is_cancelled}
 use Rattle.rt_sync.specs.declared.state.State.{State}
-use Rattle.rt_sync.specs.declared.told.Told.{Told}
+use Rattle.rt_sync.specs.declared.state.Told.{Told}
 use Rattle.rt_sync.specs.inside.Losing.{AreMoved}
 use Rattle.rt_sync.specs.inside.StateView.{held_of, world_of}
 use Rattle.rt_sync.specs.inside.Viewed.{all_in}

@@ -5,7 +5,7 @@ use Rattle.std.specs.List.{find}
 use Rattle.rt_parts.specs.Settling.{entries_set}
 use Rattle.rt_parts.specs.declared.requests.Settled.{Settled as Left}
 use Rattle.rt_world.specs.declared.report.Body.TheVariants.{Settled}
-use Rattle.rt_world.specs.declared.request.Request.{Request}
+use Rattle.rt_world.specs.declared.step.Request.{Request}
 use Rattle.rt_world.specs.World.{pending}
 use Rattle.rt_world.specs.Met.{all_told, renewed_met}
 use Rattle.rt_world.specs.Touched.{entries_settled}

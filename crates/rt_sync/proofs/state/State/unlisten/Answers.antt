@@ -6,7 +6,7 @@ use Rattle.rt_world.specs.declared.step.Step.{Step}
 use Rattle.rt_world.specs.World.{Listener}
 use Rattle.rt_parts.specs.Renewed.{all_told_of, renewed_of}
 use Rattle.rt_sync.specs.declared.state.State.{State}
-use Rattle.rt_sync.specs.declared.told.Told.{Told}
+use Rattle.rt_sync.specs.declared.state.Told.{Told}
 use Rattle.rt_sync.specs.inside.Losing.{AreMoved}
 use Rattle.rt_sync.specs.inside.StateView.{held_of, world_of}
 use Rattle.rt_sync.proofs.Listened.{IsJust, left_views, removed_is, unlisten_just, unlisten_made, tied_next}

@@ -37,26 +37,26 @@ unreachable-requires c =
 pub refresh-requires : goal.refresh-requires
 refresh-requires c =
     let state : State = c.args.self.now in
-    let found : Some c.in-Some.entries.now ≡ entries_at (state.given_requests + 1) c.pending-pending.result.now = search rules in
-    let same : c.in-Some.entries.now ≡ entries_of c.args.action =
-    lent (pending state.requests) c.pending-pending.result.now (state.given_requests + 1) (entries_of c.args.action) c.in-Some.entries.now
+    let found : Some c.in-Some.written.now ≡ entries_at (state.given_requests + 1) c.pending-pending.result.now = search rules in
+    let same : c.in-Some.written.now ≡ entries_of c.args.action =
+    lent (pending state.requests) c.pending-pending.result.now (state.given_requests + 1) (entries_of c.args.action) c.in-Some.written.now
     (c.asked_law.ensures.above (world_of state) c.requires.due.good.sound)
     (c.pending-pending.ensures ∙ ap pending c.in_ok-add.ensures.added ∙ c.pending_law.ensures.write state.requests (state.given_requests + 1) (Some c.args.seat) c.args.action)
     found in
     let laws : TouchLaws = record { children = c.touch_law.ensures.children; unmet = c.touch_law.ensures.unmet; touched = c.touch_law.ensures.touched; few = c.touch_law.ensures.few } in
     record {
-      follow = follows_at laws c.brought_law.ensures.pushed (held_of state) c.requires.viewed.pairs (Step.Write c.args.seat c.args.action) c.requires.due refl refl c.in-Some.entries.now same state.brought refl
+      follow = follows_at laws c.brought_law.ensures.pushed (held_of state) c.requires.viewed.pairs (Step.Write c.args.seat c.args.action) c.requires.due refl refl c.in-Some.written.now same state.brought refl
           c.pending-pending.result.now (c.pending-pending.ensures ∙ ap pending c.in_ok-add.ensures.added);
     }
 
 pub returns : goal.returns
 returns c =
     let state : State = c.args.self.now in
-    let entries = c.in-Some.entries.now in
+    let entries = c.in-Some.written.now in
     let pend : c.pending-pending.result.now ≡ pending c.add.new.self = c.pending-pending.ensures in
-    let found : Some c.in-Some.entries.now ≡ entries_at (state.given_requests + 1) c.pending-pending.result.now = search rules in
-    let same : c.in-Some.entries.now ≡ entries_of c.args.action =
-    lent (pending state.requests) c.pending-pending.result.now (state.given_requests + 1) (entries_of c.args.action) c.in-Some.entries.now
+    let found : Some c.in-Some.written.now ≡ entries_at (state.given_requests + 1) c.pending-pending.result.now = search rules in
+    let same : c.in-Some.written.now ≡ entries_of c.args.action =
+    lent (pending state.requests) c.pending-pending.result.now (state.given_requests + 1) (entries_of c.args.action) c.in-Some.written.now
     (c.asked_law.ensures.above (world_of state) c.requires.due.good.sound)
     (c.pending-pending.ensures ∙ ap pending c.in_ok-add.ensures.added ∙ c.pending_law.ensures.write state.requests (state.given_requests + 1) (Some c.args.seat) c.args.action)
     found in

@@ -1,9 +1,9 @@
 use Rattle.std.proofs.Common.{◌≡◌, ◌<◌, ◌≤◌, true, false, refl, sym, ap, subst, ◌∙◌, rules, Some, length}
 use Rattle.std.specs.FinMap as map_of
 use Rattle.rt_chain.specs.Chains.{is_half}
-use Rattle.rt_chain.specs.declared.half.Half.{Half}
+use Rattle.rt_chain.specs.declared.chain.Half.{Half}
 use Rattle.rt_order.specs.Entries.{entry_cmp}
-use Rattle.rt_query.specs.declared.limit.Limit.TheVariants.{First, Last}
+use Rattle.rt_query.specs.declared.query.Limit.TheVariants.{First, Last}
 use Rattle.rt_view.specs.declared.window.Turned.{Turned}
 use Rattle.rt_view.specs.inside.Ranged.{inner}
 use Rattle.rt_view.specs.inside.Turns.{Spills}

@@ -1,7 +1,7 @@
 use Rattle.std.proofs.Common.{◌≡◌, true, false, sym, ap, subst, ◌∙◌, rules, Some}
 use Rattle.rt_chain.specs.Chains.{is_half}
-use Rattle.rt_chain.specs.declared.half.Half.{Half}
-use Rattle.rt_query.specs.declared.limit.Limit.TheVariants.{First, Last}
+use Rattle.rt_chain.specs.declared.chain.Half.{Half}
+use Rattle.rt_query.specs.declared.query.Limit.TheVariants.{First, Last}
 use Rattle.rt_view.specs.declared.window.Turned.{Turned}
 use Rattle.rt_view.specs.inside.Ranged.{inner}
 use Rattle.rt_view.specs.inside.Turns.{Refills}

@@ -1,5 +1,0 @@
-use Rattle.std.proofs.Common.{◌≡◌}
-use Rattle.rt_connect.proofs.driven.Driven.read_messages.Given as goal
-
-abbrev pub invariant-loop : goal.invariant-loop
-invariant-loop g l = g.D.Drain.failures l.writer ≡ g.D.Drain.failures l.fn.writer

@@ -1,0 +1,10 @@
+use Rattle.rt_world.specs.declared.step.Step.TheVariants.{Connected}
+use Rattle.rt_lines.specs.inside.Appending.{Appends}
+use Rattle.rt_connect.specs.Doing.{IsTold}
+use Rattle.rt_connect.proofs.Driving.{at_some_time}
+use Rattle.rt_connect.proofs.session.Driven.tell_connected.Goals as goal
+
+pub returns-clause-printed : goal.returns-clause-printed
+returns-clause-printed g c =
+    at_some_time (Appends c.args.self.now.printed c.tell_connected.new.out) (λ a b x. IsTold a Connected b x)
+    c.tell_connected.result _ _ c.tell_connected.ensures

@@ -1,9 +1,0 @@
-use Rattle.std.proofs.Common.{not, ap, ◌∙◌}
-use Rattle.std.specs.List.{list_any}
-use Rattle.rt_cover.proofs.HeldLaws.{of_numbers}
-use Rattle.rt_cover.proofs.behind.is_left.Goals as goal
-
-pub returns : goal.returns
-returns g c =
-    c.has_left.ensures ∙ ap (list_any (λ m. not (g.E.Ending.ended c.args.ending.now m))) c.numbers.ensures
-    ∙ of_numbers c.args.form.now (λ m. not (g.E.Ending.ended c.args.ending.now m)) c.args.listeners.now

@@ -1,5 +1,0 @@
-use Rattle.rt_journal.proofs.Crosses.{tree_send}
-use Rattle.rt_journal.proofs.crossing.crossing_law.Goals as goal
-
-pub returns : goal.returns
-returns c = tree_send

@@ -1,0 +1,11 @@
+use Rattle.std.proofs.Common.{sym, subst}
+use Rattle.rt_mail.specs.laws.Replays.{Rise}
+use Rattle.rt_mail.proofs.Rising.{rise_with}
+use Rattle.rt_mail.proofs.mirror.Known.with_request.Goals as goal
+
+pub invariant_of-known : goal.invariant_of-known
+invariant_of-known c = record {
+  beside = c.known.invariant.beside;
+  rise = c.known.invariant.rise;
+  requests_rise = subst Rise (sym c.in_ok-insert.ensures) (rise_with c.args.id c.known.inside.requests.items c.known.invariant.requests_rise);
+}

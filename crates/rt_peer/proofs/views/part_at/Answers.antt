@@ -1,0 +1,6 @@
+use Rattle.std.proofs.Common.{◌∙◌}
+use Rattle.rt_peer.proofs.PartLaws.{part-none}
+use Rattle.rt_peer.proofs.views.part_at.Goals as goal
+
+pub returns-in-None : goal.returns-in-None
+returns-in-None c = c.null.ensures ∙ part-none _ c.in-None.ensures

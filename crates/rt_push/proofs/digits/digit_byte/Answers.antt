@@ -1,8 +1,0 @@
-use Rattle.std.proofs.Common.{ap}
-use Rattle.std.specs.Prelude.{slice_index}
-use Rattle.rt_push.specs.Digits.{alphabet, digit_byte}
-use Rattle.rt_push.proofs.digits.digit_byte.Goals as goal
-
-pub returns : goal.returns
-unfolding digit_byte
-returns c = ap (slice_index alphabet) c.from.ensures

@@ -1,5 +1,0 @@
-use Rattle.rt_push.proofs.DigitLaws.{digits-stand}
-use Rattle.rt_push.proofs.laws.digits_stand.Goals as goal
-
-pub returns : goal.returns
-returns c = digits-stand

@@ -1,7 +1,0 @@
-use Rattle.std.proofs.Common.{refl}
-use Rattle.rt_push.specs.Digits.{digit_byte, digits}
-use Rattle.rt_push.proofs.laws.examples.Goals as goal
-
-pub returns-clause-written : goal.returns-clause-written
-unfolding digit_byte digits
-returns-clause-written c = (refl, refl, refl)

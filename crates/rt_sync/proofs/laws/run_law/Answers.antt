@@ -1,5 +1,0 @@
-use Rattle.rt_sync.proofs.AppliedAll.{makes_all}
-use Rattle.rt_sync.proofs.laws.run_law.Goals as goal
-
-pub returns : goal.returns
-returns c = makes_all

@@ -1,5 +1,0 @@
-use Rattle.rt_view.specs.inside.Kept.{AreWords}
-use Rattle.rt_view.proofs.order.are_words.Given as goal
-
-abbrev pub invariant-loop-key : goal.invariant-loop-key
-invariant-loop-key l = AreWords l.key-iterator → AreWords l.children.entries

@@ -1,6 +1,0 @@
-use Rattle.std.proofs.Common.{drop}
-use Rattle.rt_view.specs.inside.Kept.{NameWords}
-use Rattle.rt_view.proofs.order.name_words.Given as goal
-
-abbrev pub invariant-loop-key : goal.invariant-loop-key
-invariant-loop-key l = NameWords (drop l.key-index l.named) → NameWords l.named

@@ -1,5 +1,0 @@
-use Rattle.rt_world.proofs.HoldsLaws.{taken_is_sound, taken_is_steady}
-use Rattle.rt_world.proofs.made.sending_law.Goals as goal
-
-pub returns : goal.returns
-returns c = record { sound = taken_is_sound; steady = taken_is_steady }

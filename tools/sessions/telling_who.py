@@ -1,0 +1,192 @@
+"""What ./check asks of `emulate` about who is connected and what each listens to: who is told, when, how it is written, and what of a slow one."""
+import http.client
+import socket
+import struct
+import time
+
+from cutting import must
+from emulating import LISTEN, Emulator, answered, data, drop, ok, put, say, wrong_in
+from frames import PING, SECONDS, TEXT, Client, compact
+from leaving import resets
+
+MOST = 1_048_576  # bytes of a text that says who is connected
+PAGE = "http://localhost:3000"
+
+
+def asker(port, origin=None):
+    """A client that asks who is connected, as one of that page or of none."""
+    return Client(port, target=b"/?clients", fields=f"Origin: {origin}\r\n".encode() if origin else b"")
+
+
+def said(client):
+    """The next text, as it was sent."""
+    first, length = struct.unpack("!BB", client.stream.read(2))
+    length = struct.unpack("!H", client.stream.read(2))[0] if length == 126 else length
+    length = struct.unpack("!Q", client.stream.read(8))[0] if length == 127 else length
+    must("what it is", first, TEXT)
+    return client.stream.read(length).decode()
+
+
+def one(number, client, *listens, **more):
+    """What is told of a client."""
+    host, port = client.socket.getsockname()[:2]
+    return {"from": f"{host}:{port}", "listens": list(listens), "n": number, **more}
+
+
+def all_of(*clients):
+    return compact({"clients": list(clients), "k": "clients"})
+
+
+def told(what, client, *clients):
+    must(what, said(client), all_of(*clients))
+
+
+def is_silent(client):
+    """A ping is answered, and nothing comes before that."""
+    client.frame(PING, b"hi")
+    must("what comes before a pong", client.stream.read(4), b"\x8a\x02hi")
+
+
+def who_asks_is_told(program, _room):
+    """Each change of who is connected and of what one listens to is told at once, by numbers and by tags, and nothing else is."""
+    with Emulator(program, "--deny", "/s") as it:
+        first = asker(it.port, PAGE)
+        me = one(1, first, asks=True, origin=PAGE)
+        told("the first text", first, me)
+        other = Client(it.port)
+        told("another comes", first, me, one(2, other))
+        must("a listen", other.ask({**LISTEN, "tag": 7}, 1), [data("/a", None, 7)])
+        listen = {**LISTEN, "tag": 7}
+        told("that listen", first, me, one(2, other, listen))
+        query = {"k": "listen", "path": "/b/\"c\\", "q": {"limit": ["last", 2], "lower": [5, "min"], "order": "/x"}, "tag": 2}
+        must("a query", other.ask(query, 1), [data("/b/\"c\\", None, 2)])
+        told("that query, which has the less tag", first, me, one(2, other, query, listen))
+        must("what shows nothing there", other.ask(put(1, "/a/x", 1), 2), [data("/a/x", 1, 7), ok(1)])
+        for message in ({"k": "hello", "version": 2}, "no message", put(2, "/s", 1), {**LISTEN, "path": "/s", "tag": 9}):
+            say(other, message)
+        must("what is refused", [other.text()[1]["k"] for _ in range(2)], ["no", "revoke"])
+        must("what is read by plain HTTP", fetched(it.port, "/a/x.json"), (200, b"1"))
+        other.ask({"k": "unlisten", "tag": 7}, 0)
+        told("an end of a listen, behind all that", first, me, one(2, other, query))
+        must("another query of its tag", other.ask({**LISTEN, "tag": 2}, 1), [data("/a", {"x": 1}, 2)])
+        told("that in its place", first, me, one(2, other, {**LISTEN, "tag": 2}))
+        is_silent(other)
+        resets(other)
+        told("the other goes", first, me)
+        third = Client(it.port, fields=b"oRIGIN: https://[::1]:80\r\n")
+        told("its number is another's", first, me, one(2, third, origin="https://[::1]:80"))
+        second = asker(it.port)
+        both = (me, one(2, third, origin="https://[::1]:80"), one(3, second, asks=True))
+        told("another asks", first, *both)
+        told("and is told the same", second, *both)
+        must("a close", first.close(), b"\x88\x00")
+        told("the first goes", second, *both[1:])
+        must("how it ends", it.end(), (0, b""))
+
+
+def fetched(port, target, **fields):
+    it = http.client.HTTPConnection("127.0.0.1", port, timeout=SECONDS)
+    it.request("GET", target, headers=fields)
+    answer = it.getresponse()
+    text = answer.read()
+    it.close()
+    return answer.status, text
+
+
+def foreign_pages_are_not_told(program, _room):
+    """A page of another machine is told nothing; and neither is who asks otherwise than by a handshake of that address."""
+    with Emulator(program) as it:
+        with socket.create_connection(("127.0.0.1", it.port), timeout=SECONDS) as stream:
+            must("a foreign page", answered(stream, "http://evil.example", target="/?clients"), b"HTTP/1.1 403")
+        must("plain HTTP", fetched(it.port, "/?clients")[0], 404)
+        others = [Client(it.port, target=target) for target in (b"/", b"/?client", b"/?clients=1", b"/a?clients", b"/?a&clients")]
+        for other in others:
+            is_silent(other)
+        must("how it ends", it.end(), (0, b""))
+
+
+def who_asks_later_is_told_all(program, _room):
+    """While nobody asks, nothing is told; who asks then is told what is so."""
+    with Emulator(program) as it:
+        other = Client(it.port)
+        must("a listen", other.ask(LISTEN, 1), [data("/a", None)])
+        for number in (2, 2):
+            now = asker(it.port)
+            told("what is so", now, one(1, other, LISTEN), one(number, now, asks=True))
+            resets(now)
+            it.tells("connection 2 ends")
+            is_silent(other)
+            it.saying.lines.clear()
+        must("a listen", other.ask({**LISTEN, "path": "/b", "tag": 2}, 1), [data("/b", None, 2)])
+        now = asker(it.port)
+        told("what is so then", now, one(1, other, LISTEN, {**LISTEN, "path": "/b", "tag": 2}), one(2, now, asks=True))
+        must("how it ends", it.end(), (0, b""))
+
+
+def long_texts_name_nobody(program, _room):
+    """Where the text would be too long it names nobody, and goes on once it is shorter; who asks then is told so too."""
+    with Emulator(program) as it:
+        first, other = asker(it.port), Client(it.port)
+        me = one(1, first, asks=True)
+        path = "/" + "k" * 500
+        texts = [compact({"k": "listen", "path": path, "tag": tag}) for tag in range(1, 2001)]
+        for text in texts:
+            say(other, text)
+        for _ in texts:
+            other.text()
+        nobody = compact({"clients": None, "k": "clients"})
+        until = time.monotonic() + SECONDS
+        while (last := said(first)) != nobody and time.monotonic() < until:
+            must("whether it is short enough", len(last) <= MOST, True)
+        must("what is told of too much", last, nobody)
+        second = asker(it.port)
+        must("what another is told", said(second), nobody)
+        drop(second)
+        resets(other)
+        until = time.monotonic() + SECONDS
+        while (last := said(first)) != all_of(me) and time.monotonic() < until:
+            pass
+        must("what is told once it is gone", last, all_of(me))
+        must("how it ends", it.end(), (0, b""))
+
+
+def slow_ones_are_told_the_newest(program, _room):
+    """One that reads nothing is told little of many changes, and the newest once it reads; meanwhile the others are served."""
+    with Emulator(program) as it:
+        slow = socket.socket()
+        slow.setsockopt(socket.SOL_SOCKET, socket.SO_RCVBUF, 4096)
+        slow.settimeout(SECONDS)
+        slow.connect(("127.0.0.1", it.port))
+        must("its handshake", answered(slow, target="/?clients"), b"HTTP/1.1 101")
+        other, path = Client(it.port), "/" + "k" * 700
+        for tag in range(1, 1001):
+            say(other, {"k": "listen", "path": path, "tag": tag})
+        for _ in range(1000):
+            other.text()
+        worst = 0
+        for tag in range(1001, 1201):
+            began = time.monotonic()
+            must("a listen", other.ask({**LISTEN, "tag": tag}, 1), [data("/a", None, tag)])
+            worst = max(worst, time.monotonic() - began)
+        must("whether each was answered within a second", worst < 1, True)
+        read = slow.makefile("rb")
+        while read.readline() != b"\r\n":
+            pass
+        count, last = 0, ""
+        while '"tag":1200}' not in last:
+            length = struct.unpack("!BB", read.read(2))[1]
+            length = struct.unpack("!Q", read.read(8))[0] if length == 127 else struct.unpack("!H", read.read(2))[0] if length == 126 else length
+            count, last = count + 1, read.read(length).decode()
+        must("whether it was told few", count < 100, True)
+        read.close()
+        slow.close()
+        must("how it ends", it.end(), (0, b""))
+
+
+SESSIONS = [who_asks_is_told, foreign_pages_are_not_told, who_asks_later_is_told_all, long_texts_name_nobody, slow_ones_are_told_the_newest]
+
+
+def wrong_of(programs, room):
+    """What is wrong with these builds of the program, and how many sessions there were."""
+    wrong = [wrong_in(session, program, room) for program in programs for session in SESSIONS]
+    return [it for it in wrong if it], len(SESSIONS) * len(programs)
