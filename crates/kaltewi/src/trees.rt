@@ -140,31 +140,37 @@ pub use rt_tree::LeafRef;
 /// fn count(tree: &Tree) -> usize {
 ///     tree.children().map_or(0, |children| children.len())
 /// }
+/// ```
+pub use rt_tree::Tree;
+
+/// A tree made of a JSON value that is lent, or that is taken; a tree as a JSON value; a tree and a leaf written behind
+/// what a writer of JSON has.
 ///
+/// ```rust
 /// fn read_value(alloc: Global, value: &Value) -> Result<Tree, TreeError> {
-///     Tree::from_value(alloc, value)
+///     tree_from_value(alloc, value)
 /// }
 ///
 /// fn take_value(alloc: Global, value: Value) -> Result<Tree, TreeError> {
-///     Tree::of_value(alloc, value)
+///     tree_of_value(alloc, value)
 /// }
 ///
 /// fn write_both(leaf: &Leaf, tree: &Tree, out: &mut Writer) -> Result<(), AllocError> {
 ///     out.begin_array()?;
-///     leaf.write(out)?;
-///     tree.write(out)?;
+///     write_leaf(leaf, out)?;
+///     write_tree(tree, out)?;
 ///     out.end_array()
 /// }
 ///
 /// fn show_values(rt: &impl Print, alloc: Global, leaf: &Leaf, tree: &Tree) -> Result<()> {
-///     let value = tree.to_value(alloc)?;
+///     let value = value_of_tree(alloc, tree)?;
 ///     let is_same = read_value(alloc, &value)? == take_value(alloc, value)?;
 ///     let count = both(alloc, leaf, tree)?.len();
 ///     println!(rt; "of a value the same: {is_same}, {count} bytes of both")?;
 ///     Ok(())
 /// }
 /// ```
-pub use rt_tree::Tree;
+pub use rt_tree::{tree_from_value, tree_of_value, value_of_tree, write_leaf, write_tree};
 
 /// The children of an object, in the order of their keys' bytes; read as a `BTreeMap` is. A copy
 /// shares its parts.

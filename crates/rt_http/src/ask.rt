@@ -10,7 +10,7 @@ use crate::head::Method;
 use crate::request::Request;
 use crate::resource::{TargetPlace, does_query, path, place_of, query_in, split, words_of};
 use rt_query::Query;
-use rt_tree::{Key, Path, Tree, TreeError};
+use rt_tree::{Key, Path, Tree, TreeError, tree_of_value};
 use rt_wire::is_crowded;
 use rt_writes::Entries;
 use serde_json::{Map, Value};
@@ -149,7 +149,7 @@ fn tree(alloc: Global, value: Value) -> Result<Tree, Fault>
     ensures ok { IfOk result (λ tree. tree_in (view value) ≡ Ok tree) }
     ensures fault { IfErr result (λ e. (tree_in (view value) ≡ Err e) ⊎ (e ≡ Fault.NoMemory)) }
 {
-    match Tree::of_value(alloc, value) {
+    match tree_of_value(alloc, value) {
         Ok(tree) => Ok(tree),
         Err(TreeError::NoMemory) => Err(Fault::NoMemory),
         Err(error) => Err(Fault::Body(error)),

@@ -16,7 +16,7 @@ ghost use Rattle.rt_hub.specs.Verdicts.{is_ok, says_ok, verdict_when, when_asked
 ghost use Rattle.rt_hub.specs.declared.refusal.TheConstants.{MAX_WAITING_BYTES, MAX_WAITING_MESSAGES};
 
 use rt_peer::Sent;
-use rt_tree::{Path, Tree, TreeError};
+use rt_tree::{Path, TreeError, tree_from_value};
 use rt_wire::{Asked, ClientMessage, MAX_NUMBER, Reason, ServerMessage};
 use serde_json::Value;
 use std::alloc::{AllocError, Global};
@@ -105,7 +105,7 @@ fn text_wrong(alloc: Global, text: &str) -> Result<Option<Wrong>, AllocError>
 fn tree_wrong(alloc: Global, value: &Value) -> Result<Option<Wrong>, AllocError>
     ensures { IfOk result (λ wrong. wrong ≡ tree_wrong (view value.now)) }
 {
-    match Tree::from_value(alloc, value) {
+    match tree_from_value(alloc, value) {
         Ok(_) => Ok(None),
         Err(TreeError::NoMemory) => Err(AllocError),
         Err(why) => Ok(Some(Wrong::Unfit(why))),

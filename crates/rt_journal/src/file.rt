@@ -7,7 +7,7 @@ ghost use Rattle.rt_tree.specs.Trees.{object};
 ghost use Rattle.rt_tree.specs.Reading.{data_fault, member_trees, text_fault, tree_of_data};
 ghost use Rattle.rt_journal.specs.laws.Crossing.{TreeIsSent};
 
-use rt_tree::{Key, Tree, TreeError};
+use rt_tree::{Key, Tree, TreeError, tree_from_value};
 use serde_json::Value;
 use std::alloc::{AllocError, Global};
 use std::collections::BTreeMap;
@@ -164,7 +164,7 @@ fn tree_of(alloc: Global, value: &Value) -> Result<Tree, TreeError>
     ensures fine { data_fault (view value.now) ≡ None
         → IfErr result (λ e. e ≡ TreeError.NoMemory) }
 {
-    match Tree::from_value(alloc, value) {
+    match tree_from_value(alloc, value) {
         Err(TreeError::TooManyNodes) => match value {
             Value::Object(members) => tree_of_members(alloc, members),
             Value::Null | Value::Bool(_) | Value::Number(_) | Value::String(_) | Value::Array(_) =>

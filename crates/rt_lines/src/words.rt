@@ -8,7 +8,7 @@ ghost use Rattle.rt_lines.specs.Reading.{action_in, entries_in, mark_in, parts_r
 use crate::error::{LineError, Refusal};
 use crate::form::{PartWords, Written};
 use rt_order::Mark;
-use rt_tree::{Path, Tree, TreeError};
+use rt_tree::{Path, Tree, TreeError, tree_from_value};
 use rt_wire::{Action, Part, Parts};
 use rt_writes::Entries;
 use serde_json::Value;
@@ -95,7 +95,7 @@ pub(crate) fn tree_of(alloc: Global, value: &Value) -> Result<Tree, LineError>
     ensures fault { IfErr result (λ e. (tree_in (data_of value.now) ≡ Err e)
         ⊎ (e ≡ LineError.NoMemory)) }
 {
-    match Tree::from_value(alloc, value) {
+    match tree_from_value(alloc, value) {
         Ok(tree) => Ok(tree),
         Err(TreeError::NoMemory) => Err(LineError::NoMemory),
         Err(error) => Err(LineError::Refused(Refusal::Tree(error))),

@@ -26,6 +26,7 @@ use rt_map::{NoSlot, OrdMap, Share};
 use std::alloc::{AllocError, Global};
 use std::marker::Model;
 use std::slice::from_ref;
+pub use text::{tree_from_value, tree_of_value, value_of_tree, write_leaf, write_tree};
 
 /// A tree of values: null, a leaf, or an object of children. No child is null, and an object
 /// without children is null. At most 32 keys stand above a leaf.

@@ -27,7 +27,7 @@ use crate::query::query;
 use crate::query_json::write_query;
 use crate::request::{Action, Asked, Ending};
 use crate::writer::{
-    new_writer, text_of, write_entries, write_number, write_path, write_text, write_tree,
+    new_writer, text_of, write_entries, write_number, write_path, write_text, write_value,
 };
 use json::Writer;
 use rt_query::Query;
@@ -322,7 +322,7 @@ fn write_put(
     write_number(out, "id", id)?;
     write_text(out, "k", kind)?;
     write_path(out, path)?;
-    write_tree(out, tree)?;
+    write_value(out, tree)?;
     out.end_object()
 }
 

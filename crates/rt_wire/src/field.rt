@@ -11,7 +11,7 @@ ghost use Rattle.rt_wire.specs.inside.Places.{places};
 use crate::error::WireError;
 use crate::limits::{MAX_NUMBER, MAX_REASON_BYTES};
 use crate::request::Reason;
-use rt_tree::{Path, Tree, TreeError};
+use rt_tree::{Path, Tree, TreeError, tree_of_value};
 use rt_writes::Entries;
 use serde_json::{Map, Value};
 use std::alloc::Global;
@@ -140,7 +140,7 @@ pub(crate) fn tree(alloc: Global, value: Value) -> Result<Tree, WireError>
     ensures ok { IfOk result (λ tree. tree_of (view value) ≡ Ok tree) }
     ensures err { IfErr result (λ e. (tree_of (view value) ≡ Err e) ⊎ (e ≡ WireError.NoMemory)) }
 {
-    match Tree::of_value(alloc, value) {
+    match tree_of_value(alloc, value) {
         Ok(tree) => Ok(tree),
         Err(TreeError::NoMemory) => Err(WireError::NoMemory),
         Err(_) => Err(WireError::BadTree),

@@ -16,7 +16,7 @@ use crate::writer::{new_writer, text_of, write_path_text};
 use json::Writer;
 use rt_order::{Cut, Index, Mark, Place};
 use rt_query::{Limit, Query};
-use rt_tree::Key;
+use rt_tree::{Key, write_leaf};
 use std::alloc::{AllocError, Global};
 
 // What the children are ordered by.
@@ -37,7 +37,7 @@ fn write_mark(out: &mut Writer, mark: &Mark) -> Result<(), AllocError>
 {
     match mark {
         Mark::Null => out.null(),
-        Mark::Leaf(leaf) => leaf.write(out),
+        Mark::Leaf(leaf) => write_leaf(leaf, out),
     }
 }
 

@@ -17,7 +17,7 @@ use crate::field::{entries, json_value, kind, number, path, reason, taken, tree}
 use crate::parts::{Parts, parts_in, write_parts};
 use crate::request::Reason;
 use crate::writer::{
-    new_writer, text_of, write_entries, write_number, write_path, write_text, write_tree,
+    new_writer, text_of, write_entries, write_number, write_path, write_text, write_value,
 };
 use json::Writer;
 use rt_tree::{Path, Tree};
@@ -160,7 +160,7 @@ fn write_data(out: &mut Writer, tag: u64, path: &Path, tree: &Tree) -> Result<()
     write_text(out, "k", "data")?;
     write_path(out, path)?;
     write_number(out, "tag", tag)?;
-    write_tree(out, tree)?;
+    write_value(out, tree)?;
     out.end_object()
 }
 

@@ -11,7 +11,7 @@ ghost use Rattle.rt_wire.specs.inside.Standing.{IsStandingPath, IsStandingTree, 
 ghost use Rattle.rt_wire.specs.inside.Writing.{PutsValue, PutsField, lent_members};
 
 use json::Writer;
-use rt_tree::{Path, Tree};
+use rt_tree::{Path, Tree, write_tree};
 use rt_writes::Entries;
 use std::alloc::{AllocError, Global};
 use std::collections::BTreeMap;
@@ -80,12 +80,12 @@ pub(crate) fn write_path(out: &mut Writer, path: &Path) -> Result<(), AllocError
 }
 
 // The member `value`.
-pub(crate) fn write_tree(out: &mut Writer, tree: &Tree) -> Result<(), AllocError>
+pub(crate) fn write_value(out: &mut Writer, tree: &Tree) -> Result<(), AllocError>
     ensures put { OnOk result (PutsField (tree_field tree.now) out.old out.new) }
     ensures standing { OnOk result (IsStandingTree tree.now) }
 {
     out.key("value")?;
-    tree.write(out)
+    write_tree(tree, out)
 }
 
 // `insert`, without the old tree.
@@ -128,7 +128,7 @@ fn write_trees(out: &mut Writer, trees: &BTreeMap<String, &Tree>) -> Result<(), 
 {
     for (name, tree) in trees.iter() {
         out.key(name.as_str())?;
-        tree.write(out)?;
+        write_tree(tree, out)?;
     }
     out.end_object()
 }

@@ -37,7 +37,7 @@ impl Tree {
     ///
     /// # Errors
     ///
-    /// `NotJson` where the text is no JSON or nests deeper than 127 levels, and what `from_value`
+    /// `NotJson` where the text is no JSON or nests deeper than 127 levels, and what [`tree_from_value`]
     /// refuses.
     pub fn read(alloc: Global, text: &str) -> Result<Tree, TreeError>
         ensures ok { IfOk result (λ tree. option_map tree_of_data (read text.now) ≡ Some tree) }
@@ -45,101 +45,101 @@ impl Tree {
         ensures fine { IfOk result (λ _. text_fault text.now ≡ None) }
     {
         match Value::from_str(alloc, text) {
-            Ok(value) => Tree::of_value(alloc, value),
+            Ok(value) => tree_of_value(alloc, value),
             Err(error) if error.is_memory() => Err(TreeError::NoMemory),
             Err(_) => Err(TreeError::NotJson),
         }
     }
+}
 
-    /// The tree that a JSON value stands for.
-    ///
-    /// # Errors
-    ///
-    /// The values are looked at depth first, elements in order, members by the bytes of their
-    /// names, and the first fault is answered. At each value these are looked at in order: its
-    /// number (`TooManyNodes` from the 65,537th on), the number of keys above it (`TooDeep` from 33
-    /// on), its name (`KeyTooLong`, `BadKey`), and the value itself (`NotWhole`, `TextTooLong`).
-    /// `NoMemory` where memory lacks.
-    pub fn from_value(alloc: Global, value: &Value) -> Result<Tree, TreeError>
-        ensures ok { IfOk result (λ tree. tree ≡ tree_of_data (view value.now)) }
-        ensures first { IfSome (data_fault (view value.now)) (λ e. result ≡ Err e) }
-        ensures memory { data_fault (view value.now) ≡ None
-            → IfErr result (λ e. e ≡ TreeError.NoMemory) }
-    {
-        walk(value, 0, None, 0)?;
-        Ok(Tree::build(alloc, value)?)
-    }
+/// The tree that a JSON value stands for.
+///
+/// # Errors
+///
+/// The values are looked at depth first, elements in order, members by the bytes of their
+/// names, and the first fault is answered. At each value these are looked at in order: its
+/// number (`TooManyNodes` from the 65,537th on), the number of keys above it (`TooDeep` from 33
+/// on), its name (`KeyTooLong`, `BadKey`), and the value itself (`NotWhole`, `TextTooLong`).
+/// `NoMemory` where memory lacks.
+pub fn tree_from_value(alloc: Global, value: &Value) -> Result<Tree, TreeError>
+    ensures ok { IfOk result (λ tree. tree ≡ tree_of_data (view value.now)) }
+    ensures first { IfSome (data_fault (view value.now)) (λ e. result ≡ Err e) }
+    ensures memory { data_fault (view value.now) ≡ None
+        → IfErr result (λ e. e ≡ TreeError.NoMemory) }
+{
+    walk(value, 0, None, 0)?;
+    Ok(build(alloc, value)?)
+}
 
-    /// The tree that a JSON value stands for, which keeps the value's texts.
-    ///
-    /// # Errors
-    ///
-    /// The fault that `from_value` finds. `NoMemory` where memory lacks before it is found.
-    pub fn of_value(alloc: Global, value: Value) -> Result<Tree, TreeError>
-        ensures ok { IfOk result (λ tree. tree ≡ tree_of_data (view value)) }
-        ensures fine { IfOk result (λ _. data_fault (view value) ≡ None) }
-        ensures fault { IfErr result (λ e. (data_fault (view value) ≡ Some e)
-            ⊎ (e ≡ TreeError.NoMemory)) }
-    {
-        let mut seen = 0;
-        taken(alloc, value, 0, None, &mut seen)
-    }
+/// The tree that a JSON value stands for, which keeps the value's texts.
+///
+/// # Errors
+///
+/// The fault that [`tree_from_value`] finds. `NoMemory` where memory lacks before it is found.
+pub fn tree_of_value(alloc: Global, value: Value) -> Result<Tree, TreeError>
+    ensures ok { IfOk result (λ tree. tree ≡ tree_of_data (view value)) }
+    ensures fine { IfOk result (λ _. data_fault (view value) ≡ None) }
+    ensures fault { IfErr result (λ e. (data_fault (view value) ≡ Some e)
+        ⊎ (e ≡ TreeError.NoMemory)) }
+{
+    let mut seen = 0;
+    taken(alloc, value, 0, None, &mut seen)
+}
 
-    // The tree of data in which nothing is refused.
-    #[cycle(build)]
-    fn build(alloc: Global, value: &Value) -> Result<Tree, AllocError>
-        requires { IsTreeData (view value.now) }
-        ensures { IfOk result (λ tree. tree ≡ tree_of_data (view value.now)) }
-    {
-        match value {
-            Value::Null => Ok(Tree::null()),
-            Value::Bool(value) => Ok(Tree::leaf(Leaf::truth(*value))),
-            Value::Number(number) => match number.as_i64() {
-                Some(whole) => Ok(Tree::leaf(whole_number(whole))),
-                None => Ok(Tree::null()),
-            },
-            Value::String(text) => {
-                let leaf = shared_text(alloc, text.as_str())?;
-                Ok(Tree::leaf(leaf))
-            }
-            Value::Array(items) => Tree::of_items(alloc, items.as_slice()),
-            Value::Object(members) => Tree::of_members(alloc, members),
+// The tree of data in which nothing is refused.
+#[cycle(build)]
+fn build(alloc: Global, value: &Value) -> Result<Tree, AllocError>
+    requires { IsTreeData (view value.now) }
+    ensures { IfOk result (λ tree. tree ≡ tree_of_data (view value.now)) }
+{
+    match value {
+        Value::Null => Ok(Tree::null()),
+        Value::Bool(value) => Ok(Tree::leaf(Leaf::truth(*value))),
+        Value::Number(number) => match number.as_i64() {
+            Some(whole) => Ok(Tree::leaf(whole_number(whole))),
+            None => Ok(Tree::null()),
+        },
+        Value::String(text) => {
+            let leaf = shared_text(alloc, text.as_str())?;
+            Ok(Tree::leaf(leaf))
         }
+        Value::Array(items) => of_items(alloc, items.as_slice()),
+        Value::Object(members) => of_members(alloc, members),
     }
+}
 
-    // The object of the items, each at its place.
-    #[cycle(build)]
-    fn of_items(alloc: Global, items: &[Value]) -> Result<Tree, AllocError>
-        requires readable { AreTreeItems (items_view items.now) }
-        requires short { length items.now < 2 ^ 64 }
-        ensures { IfOk result (λ tree. tree ≡ object (item_trees 0 (items_view items.now))) }
-    {
-        let mut children = OrdMap::new(alloc)?;
-        let mut place: usize = 0;
-        for item in items {
-            let child = Tree::build(alloc, item)?;
-            let key = index_key(alloc, place)?;
-            add_child(&mut children, alloc, key, child)?;
-            place += 1;
-        }
-        Ok(Tree::object(children))
+// The object of the items, each at its place.
+#[cycle(build)]
+fn of_items(alloc: Global, items: &[Value]) -> Result<Tree, AllocError>
+    requires readable { AreTreeItems (items_view items.now) }
+    requires short { length items.now < 2 ^ 64 }
+    ensures { IfOk result (λ tree. tree ≡ object (item_trees 0 (items_view items.now))) }
+{
+    let mut children = OrdMap::new(alloc)?;
+    let mut place: usize = 0;
+    for item in items {
+        let child = build(alloc, item)?;
+        let key = index_key(alloc, place)?;
+        add_child(&mut children, alloc, key, child)?;
+        place += 1;
     }
+    Ok(Tree::object(children))
+}
 
-    // The object of the members, each at its name.
-    #[cycle(build)]
-    fn of_members(alloc: Global, members: &BTreeMap<String, Value>) -> Result<Tree, AllocError>
-        requires { AreTreeMembers (members_view members.now.entries) }
-        ensures { IfOk result (λ tree. tree
-            ≡ object (member_trees (members_view members.now.entries))) }
-    {
-        let mut row = Vec::with_capacity(alloc, members.len())?;
-        for (name, member) in members.iter() {
-            let child = Tree::build(alloc, member)?;
-            let key = valid_key(alloc, name.as_str())?;
-            push_child(&mut row, key, child)?;
-        }
-        Ok(Tree::object(OrdMap::from_sorted(alloc, row)?))
+// The object of the members, each at its name.
+#[cycle(build)]
+fn of_members(alloc: Global, members: &BTreeMap<String, Value>) -> Result<Tree, AllocError>
+    requires { AreTreeMembers (members_view members.now.entries) }
+    ensures { IfOk result (λ tree. tree
+        ≡ object (member_trees (members_view members.now.entries))) }
+{
+    let mut row = Vec::with_capacity(alloc, members.len())?;
+    for (name, member) in members.iter() {
+        let child = build(alloc, member)?;
+        let key = valid_key(alloc, name.as_str())?;
+        push_child(&mut row, key, child)?;
     }
+    Ok(Tree::object(OrdMap::from_sorted(alloc, row)?))
 }
 
 // Puts a child at its key, unless it is null.
@@ -237,26 +237,26 @@ fn walk_members(
 
 // ---- trees are written as JSON
 
-impl Tree {
-    /// The JSON value that the tree is: null, a truth value, a number, a text or an object.
-    ///
-    /// No array comes of it, and no empty object. It is read back as the same tree.
-    #[cycle(value)]
-    pub fn to_value(&self, alloc: Global) -> Result<Value, AllocError>
-        ensures value { IfOk result (λ value. view value ≡ data_of self.now) }
-        ensures same_tree { IfOk result (λ value. tree_of_data (view value) ≡ self.now) }
-        ensures allowed { IsAllowed self.now }
-    {
-        match &self.node {
-            Node::Null => Ok(Value::Null),
-            Node::Leaf(leaf) => leaf_value(alloc, leaf),
-            Node::Object(children) => {
-                let members = members_of(alloc, children)?;
-                Ok(Value::Object(members))
-            }
+/// The JSON value that the tree is: null, a truth value, a number, a text or an object.
+///
+/// No array comes of it, and no empty object. It is read back as the same tree.
+#[cycle(value)]
+pub fn value_of_tree(alloc: Global, tree: &Tree) -> Result<Value, AllocError>
+    ensures value { IfOk result (λ value. view value ≡ data_of tree.now) }
+    ensures same_tree { IfOk result (λ value. tree_of_data (view value) ≡ tree.now) }
+    ensures allowed { IsAllowed tree.now }
+{
+    match &tree.node {
+        Node::Null => Ok(Value::Null),
+        Node::Leaf(leaf) => leaf_value(alloc, leaf),
+        Node::Object(children) => {
+            let members = members_of(alloc, children)?;
+            Ok(Value::Object(members))
         }
     }
+}
 
+impl Tree {
     /// The tree as compact JSON, with the keys in the order of their bytes.
     pub fn text(&self, alloc: Global) -> Result<String, AllocError>
         ensures text { IfOk result (λ text. string_bytes text ≡ compact_text (data_of self.now)) }
@@ -266,27 +266,27 @@ impl Tree {
             ≡ back_fault self.now) }
     {
         let mut out = Writer::new(Vec::with_capacity(alloc, 128)?);
-        self.write(&mut out)?;
+        write_tree(self, &mut out)?;
         Ok(text_of(out.into_inner()))
     }
+}
 
-    /// Writes the tree as JSON behind what `out` has, with the keys in the order of their bytes.
-    ///
-    /// What stands before is the caller's: a member's key, or a `[`. After an error some of the tree
-    /// may stand there.
-    #[cycle(write)]
-    pub fn write(&self, out: &mut Writer) -> Result<(), AllocError>
-        ensures ok { OnOk result (WritesValue (data_of self.now) out.old.tokens out.new.tokens) }
-        ensures before { out.new.before ≡ out.old.before }
-        ensures allowed { IsAllowed self.now }
-    {
-        match &self.node {
-            Node::Null => out.null(),
-            Node::Leaf(leaf) => leaf.write(out),
-            Node::Object(children) => {
-                out.begin_object()?;
-                write_children(children, out)
-            }
+/// Writes the tree as JSON behind what `out` has, with the keys in the order of their bytes.
+///
+/// What stands before is the caller's: a member's key, or a `[`. After an error some of the tree
+/// may stand there.
+#[cycle(write)]
+pub fn write_tree(tree: &Tree, out: &mut Writer) -> Result<(), AllocError>
+    ensures ok { OnOk result (WritesValue (data_of tree.now) out.old.tokens out.new.tokens) }
+    ensures before { out.new.before ≡ out.old.before }
+    ensures allowed { IsAllowed tree.now }
+{
+    match &tree.node {
+        Node::Null => out.null(),
+        Node::Leaf(leaf) => write_leaf(leaf, out),
+        Node::Object(children) => {
+            out.begin_object()?;
+            write_children(children, out)
         }
     }
 }
@@ -299,20 +299,18 @@ fn text_of(bytes: Vec<u8>) -> String
     String::from_utf8(bytes).unwrap()
 }
 
-impl Leaf {
-    /// Writes the leaf as JSON behind what `out` has.
-    ///
-    /// What stands before is the caller's: a member's key, or a `[`.
-    pub fn write(&self, out: &mut Writer) -> Result<(), AllocError>
-        ensures ok { OnOk result (WritesValue (leaf_data self.now) out.old.tokens out.new.tokens) }
-        ensures before { out.new.before ≡ out.old.before }
-        ensures in_range { IsInRange self.now }
-    {
-        match self.value() {
-            LeafRef::Truth(value) => out.boolean(value),
-            LeafRef::Number(value) => out.i64(value),
-            LeafRef::Text(value) => out.string(value),
-        }
+/// Writes the leaf as JSON behind what `out` has.
+///
+/// What stands before is the caller's: a member's key, or a `[`.
+pub fn write_leaf(leaf: &Leaf, out: &mut Writer) -> Result<(), AllocError>
+    ensures ok { OnOk result (WritesValue (leaf_data leaf.now) out.old.tokens out.new.tokens) }
+    ensures before { out.new.before ≡ out.old.before }
+    ensures in_range { IsInRange leaf.now }
+{
+    match leaf.value() {
+        LeafRef::Truth(value) => out.boolean(value),
+        LeafRef::Number(value) => out.i64(value),
+        LeafRef::Text(value) => out.string(value),
     }
 }
 
@@ -326,7 +324,7 @@ fn write_children(children: &OrdMap<Key, Tree>, out: &mut Writer) -> Result<(), 
 {
     for (key, child) in children {
         out.key(key.text())?;
-        child.write(out)?;
+        write_tree(child, out)?;
     }
     out.end_object()
 }
@@ -357,7 +355,7 @@ fn members_of(alloc: Global, children: &OrdMap<Key, Tree>) -> Result<Map<String,
     let mut members = BTreeMap::new(alloc);
     for (key, child) in children {
         let name = String::from_str(alloc, key.text())?;
-        let value = child.to_value(alloc)?;
+        let value = value_of_tree(alloc, child)?;
         set_member(&mut members, name, value)?;
     }
     Ok(members)

@@ -24,12 +24,12 @@ loop-name-preserved c =
     let all : c.args.trees.now.entries ≡ done ++ t ∷ left = l.invariant.2 ∙ ap (λ ts. done ++ ts) step in
     let last = lent_last done t left (subst (λ ts. IsStrictlySortedBy string_cmp (keys_of ts)) all c.iter-name-items.ensures.ordered) in
     let named : c.key.new.self.tokens ≡ l.out.tokens ++ key k ∷ [] = c.in_ok-key.ensures.ok ∙ ap (λ n. l.out.tokens ++ key n ∷ []) c.as_str.ensures.value in
-    let w = c.in_ok-write.ensures.ok in (
-      c.write.ensures.before ∙ c.key.ensures.room.0 ∙ l.invariant.0,
+    let w = c.in_ok-write_tree.ensures.ok in (
+      c.write_tree.ensures.before ∙ c.key.ensures.room.0 ∙ l.invariant.0,
       done ++ t ∷ [],
       all ∙ sym (append_assoc done (t ∷ []) left),
       λ ms reads shallow same.
-          let tokens : l.out.tokens ++ text.members_tokens (json.member k w.0 ms) ≡ c.write.new.out.tokens ++ text.members_tokens ms =
+          let tokens : l.out.tokens ++ text.members_tokens (json.member k w.0 ms) ≡ c.write_tree.new.out.tokens ++ text.members_tokens ms =
           sym (ap (λ ts. ts ++ text.members_tokens ms) (w.1 ∙ ap (λ ts. ts ++ text.json_tokens w.0) named) ∙ append_assoc _ (text.json_tokens w.0) _ ∙ append_assoc l.out.tokens (key k ∷ []) _) in
           subst (WritesMembers (lent_members c.args.trees.now.entries) c.args.out.now.tokens) tokens
           (l.invariant.3 (json.member k w.0 ms) (ap (option_and_then (λ d. of_members ms (put k d (lent_members done)))) w.2 ∙ ap (of_members ms) last ∙ reads)

@@ -14,36 +14,36 @@ use Rattle.rt_tree.proofs.tree.Tree.text.Goals as goal
 pub text_of-requires : goal.text_of-requires
 text_of-requires c =
     let old : c.new-out.result.before ≡ [] = search rules in
-    let before = c.write.ensures.before ∙ old in
-    subst IsUtf8 (sym (c.into_inner.ensures.items ∙ ap (λ b. b ++ print c.write.new.out.tokens) before)) c.into_inner.ensures.utf8
+    let before = c.write_tree.ensures.before ∙ old in
+    subst IsUtf8 (sym (c.into_inner.ensures.items ∙ ap (λ b. b ++ print c.write_tree.new.out.tokens) before)) c.into_inner.ensures.utf8
 
 pub returns-clause-text : goal.returns-clause-text
 returns-clause-text c =
     let d = data_of c.args.self.now in
-    let ts = c.write.new.out.tokens in
+    let ts = c.write_tree.new.out.tokens in
     let old : c.new-out.result.before ≡ [] = search rules in
-    let is : string_bytes c.text_of.result ≡ print ts = c.text_of.ensures ∙ c.into_inner.ensures.items ∙ ap (λ b. b ++ print ts) (c.write.ensures.before ∙ old) in
-    let writes : WritesValue d [] ts = subst (λ us. WritesValue d us ts) c.new-out.ensures.tokens c.in_ok-write.ensures.ok in
+    let is : string_bytes c.text_of.result ≡ print ts = c.text_of.ensures ∙ c.into_inner.ensures.items ∙ ap (λ b. b ++ print ts) (c.write_tree.ensures.before ∙ old) in
+    let writes : WritesValue d [] ts = subst (λ us. WritesValue d us ts) c.new-out.ensures.tokens c.in_ok-write_tree.ensures.ok in
     written_text d ts _ writes is c.into_inner.ensures.reads_back (has_float-data_of c.args.self.now)
 
 pub returns-clause-reads_back : goal.returns-clause-reads_back
 returns-clause-reads_back c =
     let d = data_of c.args.self.now in
-    let ts = c.write.new.out.tokens in
+    let ts = c.write_tree.new.out.tokens in
     let old : c.new-out.result.before ≡ [] = search rules in
-    let is : string_bytes c.text_of.result ≡ print ts = c.text_of.ensures ∙ c.into_inner.ensures.items ∙ ap (λ b. b ++ print ts) (c.write.ensures.before ∙ old) in
-    let writes : WritesValue d [] ts = subst (λ us. WritesValue d us ts) c.new-out.ensures.tokens c.in_ok-write.ensures.ok in
-    written_reads d ts _ writes is c.into_inner.ensures.reads_back (omega (arith, depth-data_of c.args.self.now, shallow_of c.args.self.now c.write.ensures.allowed))
+    let is : string_bytes c.text_of.result ≡ print ts = c.text_of.ensures ∙ c.into_inner.ensures.items ∙ ap (λ b. b ++ print ts) (c.write_tree.ensures.before ∙ old) in
+    let writes : WritesValue d [] ts = subst (λ us. WritesValue d us ts) c.new-out.ensures.tokens c.in_ok-write_tree.ensures.ok in
+    written_reads d ts _ writes is c.into_inner.ensures.reads_back (omega (arith, depth-data_of c.args.self.now, shallow_of c.args.self.now c.write_tree.ensures.allowed))
 
 pub returns-clause-read_fault : goal.returns-clause-read_fault
 returns-clause-read_fault c =
     let d = data_of c.args.self.now in
-    let ts = c.write.new.out.tokens in
+    let ts = c.write_tree.new.out.tokens in
     let old : c.new-out.result.before ≡ [] = search rules in
-    let is : string_bytes c.text_of.result ≡ print ts = c.text_of.ensures ∙ c.into_inner.ensures.items ∙ ap (λ b. b ++ print ts) (c.write.ensures.before ∙ old) in
-    let writes : WritesValue d [] ts = subst (λ us. WritesValue d us ts) c.new-out.ensures.tokens c.in_ok-write.ensures.ok in
-    let back : read (string_bytes c.text_of.result) ≡ Some d = written_reads d ts _ writes is c.into_inner.ensures.reads_back (omega (arith, depth-data_of c.args.self.now, shallow_of c.args.self.now c.write.ensures.allowed)) in
-    ap (λ o. option_map_or data_fault o (Some NotJson)) back ∙ data_fault-data_of c.args.self.now c.write.ensures.allowed
+    let is : string_bytes c.text_of.result ≡ print ts = c.text_of.ensures ∙ c.into_inner.ensures.items ∙ ap (λ b. b ++ print ts) (c.write_tree.ensures.before ∙ old) in
+    let writes : WritesValue d [] ts = subst (λ us. WritesValue d us ts) c.new-out.ensures.tokens c.in_ok-write_tree.ensures.ok in
+    let back : read (string_bytes c.text_of.result) ≡ Some d = written_reads d ts _ writes is c.into_inner.ensures.reads_back (omega (arith, depth-data_of c.args.self.now, shallow_of c.args.self.now c.write_tree.ensures.allowed)) in
+    ap (λ o. option_map_or data_fault o (Some NotJson)) back ∙ data_fault-data_of c.args.self.now c.write_tree.ensures.allowed
 
 pub returns-clause-same_tree : goal.returns-clause-same_tree
-returns-clause-same_tree c = tree_of_data-data_of c.args.self.now c.write.ensures.allowed
+returns-clause-same_tree c = tree_of_data-data_of c.args.self.now c.write_tree.ensures.allowed

@@ -10,7 +10,7 @@ use Rattle.rt_tree.proofs.Rows.{Filling, filling_begins, next_filled, row_sorted
 use Rattle.serde_json.proofs.value.Value.TheLaws.{the_size}
 use Rattle.std.specs.Map.{values_of}
 use denote.Param.Weighed.{most, at_most}
-use Rattle.rt_tree.proofs.tree.Tree.+build.Goals as goal
+use Rattle.rt_tree.proofs.tree.text.+build.Goals as goal
 
 pub of_items-loop-item-init : goal.of_items-loop-item-init
 of_items-loop-item-init t c = (refl, building_items c.args.items.now c.requires.short c.in_ok-children.children.entries c.in_ok-children.ensures.empty, c.requires.readable)

@@ -15,28 +15,28 @@ use Rattle.rt_tree.specs.Writing.{members_with, data_of}
 use Rattle.rt_tree.proofs.Equals.{below}
 use Rattle.rt_tree.proofs.Nodes.{at-Null, at-Leaf, at-Object, kept-Object, allowed-node}
 use Rattle.rt_tree.proofs.Writings.{data_of-null, data_of-of_leaf, data_of-object, put-last}
-use Rattle.rt_tree.proofs.tree.+write.Goals as goal
+use Rattle.rt_tree.proofs.tree.text.+write.Goals as goal
 
-pub Tree::write-write_children-requires : goal.Tree::write-write_children-requires
-Tree::write-write_children-requires t c =
-    let kept = kept-Object c.self.invariant c.in-Object.is in (
-      omega (arith, c.decreases, ap levels (at-Object c.self.view_is c.in-Object.is), below _ kept),
+pub write_tree-write_children-requires : goal.write_tree-write_children-requires
+write_tree-write_children-requires t c =
+    let kept = kept-Object c.tree.invariant c.in-Object.is in (
+      omega (arith, c.decreases, ap levels (at-Object c.tree.view_is c.in-Object.is), below _ kept),
       kept.ordered,
     )
 
-pub Tree::write-returns-in-Null-clause-ok : goal.Tree::write-returns-in-Null-clause-ok
-Tree::write-returns-in-Null-clause-ok t c =
-    let seen : value.null ≡ data_of c.args.self.now = sym (ap data_of (at-Null c.self.view_is c.in-Null.is) ∙ data_of-null) in
+pub write_tree-returns-in-Null-clause-ok : goal.write_tree-returns-in-Null-clause-ok
+write_tree-returns-in-Null-clause-ok t c =
+    let seen : value.null ≡ data_of c.args.tree.now = sym (ap data_of (at-Null c.tree.view_is c.in-Null.is) ∙ data_of-null) in
     on_ok_weaker c.null.result (λ e. (json.null, e, ap Some seen, omega arith, ap outline seen)) c.null.ensures.ok
 
-pub Tree::write-returns-in-Leaf-clause-ok : goal.Tree::write-returns-in-Leaf-clause-ok
-Tree::write-returns-in-Leaf-clause-ok t c =
-    let seen = ap data_of (at-Leaf c.self.view_is c.in-Leaf.is) ∙ data_of-of_leaf c.in-Leaf.leaf in
-    on_ok_weaker c.write.result (λ w. subst (λ d. WritesValue d c.args.out.now.tokens c.write.new.out.tokens) (sym seen) w) c.write.ensures.ok
+pub write_tree-returns-in-Leaf-clause-ok : goal.write_tree-returns-in-Leaf-clause-ok
+write_tree-returns-in-Leaf-clause-ok t c =
+    let seen = ap data_of (at-Leaf c.tree.view_is c.in-Leaf.is) ∙ data_of-of_leaf c.in-Leaf.leaf in
+    on_ok_weaker c.write_leaf.result (λ w. subst (λ d. WritesValue d c.args.out.now.tokens c.write_leaf.new.out.tokens) (sym seen) w) c.write_leaf.ensures.ok
 
-pub Tree::write-returns-in_ok-begin_object-in-Object-clause-ok : goal.Tree::write-returns-in_ok-begin_object-in-Object-clause-ok
-Tree::write-returns-in_ok-begin_object-in-Object-clause-ok t c =
-    let seen = ap data_of (at-Object c.self.view_is c.in-Object.is) ∙ data_of-object _ (kept-Object c.self.invariant c.in-Object.is) in
+pub write_tree-returns-in_ok-begin_object-in-Object-clause-ok : goal.write_tree-returns-in_ok-begin_object-in-Object-clause-ok
+write_tree-returns-in_ok-begin_object-in-Object-clause-ok t c =
+    let seen = ap data_of (at-Object c.tree.view_is c.in-Object.is) ∙ data_of-object _ (kept-Object c.tree.invariant c.in-Object.is) in
     let opened : c.begin_object.new.self.tokens ≡ c.args.out.now.tokens ++ begin_object ∷ [] = c.in_ok-begin_object-in-Object.ensures.ok in
     on_ok_weaker c.write_children.result (λ w. (
       json.object w.0,
@@ -46,11 +46,11 @@ Tree::write-returns-in_ok-begin_object-in-Object-clause-ok t c =
       ap json.object w.4 ∙ ap outline (sym seen),
     )) c.write_children.ensures.ok
 
-pub text::write_children-loop-key-init : goal.text::write_children-loop-key-init
-text::write_children-loop-key-init t c = (refl, [], refl, λ ms reads shallow same. (ms, refl, reads, shallow, same))
+pub write_children-loop-key-init : goal.write_children-loop-key-init
+write_children-loop-key-init t c = (refl, [], refl, λ ms reads shallow same. (ms, refl, reads, shallow, same))
 
-pub text::write_children-loop-key-preserved : goal.text::write_children-loop-key-preserved
-text::write_children-loop-key-preserved t c =
+pub write_children-loop-key-preserved : goal.write_children-loop-key-preserved
+write_children-loop-key-preserved t c =
     let l = c.loop-key in
     let done = l.invariant.1 in
     let k = c.in-Some.key.now in
@@ -61,12 +61,12 @@ text::write_children-loop-key-preserved t c =
     let all : c.into_iter-key-iterator.result ≡ done ++ (k, u) ∷ left = l.invariant.2 ∙ ap (λ es. done ++ es) step in
     let last = put-last done left k u (subst (λ es. IsStrictlySortedBy key_cmp (keys_of es)) (sym gives ∙ all) c.requires) in
     let named : c.key.new.self.tokens ≡ l.out.tokens ++ key k ∷ [] = c.in_ok-key.ensures.ok ∙ ap (λ n. l.out.tokens ++ key n ∷ []) c.text.ensures.text in
-    let w = c.in_ok-write.ensures.ok in (
-      c.write.ensures.before ∙ c.key.ensures.room.0 ∙ l.invariant.0,
+    let w = c.in_ok-write_tree.ensures.ok in (
+      c.write_tree.ensures.before ∙ c.key.ensures.room.0 ∙ l.invariant.0,
       done ++ (k, u) ∷ [],
       all ∙ sym (append_assoc done ((k, u) ∷ []) left),
       λ ms reads shallow same.
-          let tokens : l.out.tokens ++ text.members_tokens (json.member k w.0 ms) ≡ c.write.new.out.tokens ++ text.members_tokens ms =
+          let tokens : l.out.tokens ++ text.members_tokens (json.member k w.0 ms) ≡ c.write_tree.new.out.tokens ++ text.members_tokens ms =
           sym (ap (λ ts. ts ++ text.members_tokens ms) (w.1 ∙ ap (λ ts. ts ++ text.json_tokens w.0) named) ∙ append_assoc _ (text.json_tokens w.0) _ ∙ append_assoc l.out.tokens (key k ∷ []) _) in
           subst (WritesMembers (members_with data_of c.into_iter-key-iterator.result) c.args.out.now.tokens) tokens
           (l.invariant.3 (json.member k w.0 ms) (ap (option_and_then (λ d. of_members ms (put k d (members_with data_of done)))) w.2 ∙ ap (of_members ms) last ∙ reads)
@@ -74,8 +74,8 @@ text::write_children-loop-key-preserved t c =
           (ap₂ (json.member k) w.4 same ∙ ap (λ es. members_outline (members_with data_of es)) (sym step))),
     )
 
-pub text::write_children-returns-clause-ok : goal.text::write_children-returns-clause-ok
-text::write_children-returns-clause-ok t c =
+pub write_children-returns-clause-ok : goal.write_children-returns-clause-ok
+write_children-returns-clause-ok t c =
     let l = c.loop-key in
     let done = l.invariant.1 in
     let gives : c.into_iter-key-iterator.result ≡ c.args.children.now.entries = c.into_iter-key-iterator.ensures.into_iter_gives.0 in
@@ -86,8 +86,8 @@ text::write_children-returns-clause-ok t c =
     (l.invariant.3 json.no_members (ap (λ es. Some (members_with data_of es)) (sym all)) (omega arith)
     (ap (λ es. members_outline (members_with data_of es)) (sym c.in-None.ensures.steps.0))))) c.end_object.ensures.ok
 
-pub Tree::write-returns-in-Null-clause-allowed : goal.Tree::write-returns-in-Null-clause-allowed
-Tree::write-returns-in-Null-clause-allowed t c = subst IsAllowed c.self.view_is (allowed-node c.self.inside.node c.self.invariant)
+pub write_tree-returns-in-Null-clause-allowed : goal.write_tree-returns-in-Null-clause-allowed
+write_tree-returns-in-Null-clause-allowed t c = subst IsAllowed c.tree.view_is (allowed-node c.tree.inside.node c.tree.invariant)
 
-pub Tree::write-returns-in-Leaf-clause-allowed : goal.Tree::write-returns-in-Leaf-clause-allowed
-Tree::write-returns-in-Leaf-clause-allowed t c = subst IsAllowed c.self.view_is (allowed-node c.self.inside.node c.self.invariant)
+pub write_tree-returns-in-Leaf-clause-allowed : goal.write_tree-returns-in-Leaf-clause-allowed
+write_tree-returns-in-Leaf-clause-allowed t c = subst IsAllowed c.tree.view_is (allowed-node c.tree.inside.node c.tree.invariant)

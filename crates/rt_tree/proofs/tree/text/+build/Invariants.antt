@@ -6,7 +6,7 @@ use Rattle.serde_json.specs.View.{items_view, members_view}
 use Rattle.rt_tree.specs.Reading.{item_trees, member_trees, AreTreeItems, AreTreeMembers}
 use Rattle.rt_tree.proofs.Readings.{Building}
 use Rattle.rt_tree.proofs.Rows.{Filling}
-use Rattle.rt_tree.proofs.tree.Tree.+build.Given as goal
+use Rattle.rt_tree.proofs.tree.text.+build.Given as goal
 
 abbrev pub invariant-of_items-loop-item : goal.invariant-of_items-loop-item
 invariant-of_items-loop-item l =
