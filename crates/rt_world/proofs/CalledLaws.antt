@@ -23,7 +23,7 @@ use Rattle.rt_cover.specs.laws.FormLaws.{supply_unfiltered}
 use Rattle.rt_cover.specs.laws.Pairs.{AllPairs-first, AllPairs-rest, AllPairs-map}
 use Rattle.rt_world.specs.declared.step.Step.{Step}
 use Rattle.rt_world.specs.World.{World, listen_of, registered, pending}
-use Rattle.rt_world.specs.After.{listeners_after, requests_after, forms_after, listening_after, kept_after, part_pushed, pushed, brought_after}
+use Rattle.rt_world.specs.After.{kind, listeners_after, requests_after, forms_after, listening_after, kept_after, part_pushed, pushed, brought_after}
 use Rattle.rt_world.specs.Messages.{next}
 use Rattle.rt_world.specs.steps.Kind.{Part}
 use Rattle.rt_world.specs.Refusals.{refusal}
@@ -31,7 +31,7 @@ use Rattle.rt_world.specs.Called.{IsCalled}
 use Rattle.rt_world.specs.Reached.{IsReached}
 use Rattle.rt_world.specs.Sound.{IsSound}
 use Rattle.rt_world.specs.laws.Made.{IsPushOn, IsPartOn}
-use Rattle.rt_world.proofs.PartLaws.{push_may_push}
+use Rattle.rt_world.proofs.PartLaws.{parts_may_push}
 use Rattle.rt_world.proofs.Listeners.{registered-renewed}
 use Rattle.rt_world.proofs.Putting.{parts_registered, kept_may_be_put, may_put_same}
 use Rattle.rt_world.proofs.Reaching.{forms_kept, listening_of}
@@ -151,24 +151,7 @@ module _ (w : World) (sound : IsSound w) (reached : IsReached w) where
 
   -- what is brought once the step's push is taken
   pub called_pushed : (s : Step) → IsCalled w.brought → refusal w s ≡ None → IsCalled (pushed w s)
-  called_pushed (Step.Data tag path tree) h free =
-      let parts : List Part = (tag, (path, tree) ∷ []) ∷ [] in
-      called_parts parts w.brought refl h (push_may_push w (Step.Data tag path tree) parts refl free)
-  called_pushed (Step.DataMerge tag entries) h free =
-      let parts : List Part = (tag, entries) ∷ [] in
-      called_parts parts w.brought refl h (push_may_push w (Step.DataMerge tag entries) parts refl free)
-  called_pushed (Step.Push parts) h free =
-      called_parts parts w.brought refl h (push_may_push w (Step.Push parts) parts refl free)
-  called_pushed (Step.Listen seat query) h free = h
-  called_pushed (Step.Unlisten seat listener) h free = h
-  called_pushed (Step.Write seat action) h free = h
-  called_pushed (Step.OnDisconnect seat ending) h free = h
-  called_pushed (Step.Accepted id) h free = h
-  called_pushed (Step.Refused id why) h free = h
-  called_pushed (Step.Revoked tag why) h free = h
-  called_pushed Step.Connected h free = h
-  called_pushed Step.Disconnected h free = h
-  called_pushed (Step.CloseSeat seat) h free = h
+  called_pushed s h free = called_parts (kind s).parts w.brought refl h (parts_may_push w s free)
 
   kept_needed : (s : Step) → All (Contains (needed (forms_after w s))) (forms_kept (kept_after w s))
   kept_needed s = subst (λ (rs : List Registered). All (Contains (needed (forms rs))) (forms_kept (kept_after w s)))

@@ -1,32 +1,29 @@
 -- A step changes the cover by its change of listeners.
-use Rattle.std.proofs.Common.{◌≡◌, ℕ, ◌<◌, Bool, true, false, cond, not, ◌||◌, ◌==◌, List, [], ◌∷◌, ◌++◌, length, refl, sym, ap, subst, ◌∙◌, arith, Option, Some, None, nat_lt, ltb-false, suc, slice_index_or}
-use Rattle.std.specs.Cmp.{nat_eq_equiv}
+use Rattle.std.proofs.Common.{◌≡◌, ℕ, ◌<◌, Bool, true, false, cond, not, ◌==◌, List, [], ◌∷◌, ◌++◌, length, refl, sym, ap, subst, ◌∙◌, arith, Option, Some, None, nat_lt, ltb-false, suc, slice_index_or}
 use Rattle.std.specs.List.{filter, find, list_any, All, Contains}
 use Rattle.std.specs.Option.{option_map, option_map_or}
 use Rattle.std.proofs.lemmas.Bool.{le-ltb}
 use Rattle.std.proofs.lemmas.List.Elements.{Contains-get_or}
-use Rattle.std.proofs.lemmas.List.Folds.{Any-from_list_any, list_any_at}
 use Rattle.rt_query.specs.Queries.{Query}
 use Rattle.rt_query.specs.QueryEq.{query_eq}
 use Rattle.rt_query.specs.Supply.{form}
 use Rattle.rt_cover.specs.Cover.{Registered, Tagged}
+use Rattle.rt_cover.specs.Runs.{Change, Add, Remove, Revoke, changed}
 use Rattle.rt_cover.specs.State.{with_listener, without_listeners, with_listeners, without_form, left_after}
-use Rattle.rt_cover.specs.laws.CoverLaws.{Contains-filter, Contains-from_filter, passes-from_filter}
-use Rattle.rt_cover.specs.laws.FormLaws.{same_tests}
-use Rattle.rt_cover.specs.laws.KeepLaws.{Contains-map, Contains-from_map, length_of_map}
+use Rattle.rt_cover.specs.laws.KeepLaws.{Contains-from_map, length_of_map}
 use Rattle.rt_cover.specs.laws.Pairs.{filter_none, filter_all}
 use Rattle.rt_world.specs.declared.step.Step.{Step}
 use Rattle.rt_world.specs.World.{World, Listener, registered, pending}
 use Rattle.rt_world.specs.steps.Revoking.{is_cancelled}
-use Rattle.rt_world.specs.After.{listeners_after, requests_after, brought_after, started_by}
+use Rattle.rt_world.specs.After.{kind, listeners_after, requests_after, brought_after, started_by}
 use Rattle.rt_world.specs.Messages.{next}
 use Rattle.rt_world.specs.Sound.{IsSound}
 use Rattle.rt_world.specs.Covering.{cover_in, cover_after}
 use Rattle.rt_world.specs.steps.Closing.{numbers_of}
-use Rattle.rt_world.proofs.Listeners.{same_number, registered-renewed}
+use Rattle.rt_world.proofs.KindLaws.{first_seen, Listening, still, adding, removing, revoking, IsAdding, IsEnding, IsRevoking, orderly, one_ends, seat_ends}
+use Rattle.rt_world.proofs.Listeners.{registered-renewed}
 use Rattle.rt_world.proofs.ShowLaws.{filter_true}
 use Rattle.rt_world.proofs.HeardLaws.{map-append, kept-same, started-same}
-use Rattle.rt_world.proofs.Numbers.{one_number}
 
 -- the registered ones of those listeners that pass
 registered-filter : (p : Listener → Bool) (q : Registered → Bool) (ls : List Listener) → ((l : Listener) → Contains ls l → p l ≡ q (l.number, form l.query)) → registered (filter p ls) ≡ filter q (registered ls)
@@ -75,36 +72,30 @@ revoked_left w tag = at (find (λ (k : Tagged). k.tag == tag) w.kept)
     at None = ap registered (filter_true w.listeners)
     at (Some k) = registered-filter (λ l. not (query_eq (form l.query) k.form)) (λ (l : Registered). not (query_eq l.1 k.form)) w.listeners (λ l c. refl)
 
-or_no : (b : Bool) → b ≡ (b || false)
-or_no true = refl
-or_no false = refl
+-- those that stay where some numbers end
+numbered : (stays : Listener → Bool) (numbers : List ℕ) (ls : List Listener) → ((l : Listener) → Contains ls l → stays l ≡ not (list_any (λ n. n == l.number) numbers))
+    → registered (filter stays ls) ≡ without_listeners (registered ls) numbers
+numbered stays numbers ls h = registered-filter stays (λ (l : Registered). not (list_any (λ n. n == l.0) numbers)) ls h
 
 pub unlistened : (w : World) (n : ℕ) → registered (filter (λ l. not (l.number == n)) w.listeners) ≡ without_listeners (registered w.listeners) (n ∷ [])
-unlistened w n = registered-filter (λ l. not (l.number == n)) (λ (l : Registered). not (list_any (λ m. m == l.0) (n ∷ []))) w.listeners (λ l c. ap not (nat_eq_equiv.symm l.number n ∙ or_no (n == l.number)))
+unlistened w n = numbered (λ l. not (l.number == n)) (n ∷ []) w.listeners (λ l c. one_ends n l)
 
 pub closed : (w : World) (seat : ℕ) → IsSound w → registered (filter (λ l. not (l.seat == seat)) w.listeners) ≡ without_listeners (registered w.listeners) (numbers_of w seat)
-closed w seat h =
-    registered-filter (λ l. not (l.seat == seat)) (λ (l : Registered). not (list_any (λ m. m == l.0) (numbers_of w seat))) w.listeners
-    (λ l c. ap not (same_tests (l.seat == seat) (list_any (λ m. m == l.number) (numbers_of w seat)) (has l c) (is l c)))
-  where
-    own : List Listener
-    own = filter (λ l. l.seat == seat) w.listeners
-
-    has : (l : Listener) → Contains w.listeners l → (l.seat == seat) ≡ true → list_any (λ m. m == l.number) (numbers_of w seat) ≡ true
-    has l c e =
-        let m = Contains-filter (λ (x : Listener). x.seat == seat) w.listeners l c e in
-        let n = Contains-map (λ (x : Listener). x.number) own m.0 l m.1 m.2 in
-        list_any_at (λ m. m == l.number) (numbers_of w seat) n.0 l.number n.1 (ap (λ m. m == l.number) n.2 ∙ nat_eq_equiv.refl l.number)
-
-    is : (l : Listener) → Contains w.listeners l → list_any (λ m. m == l.number) (numbers_of w seat) ≡ true → (l.seat == seat) ≡ true
-    is l c e =
-        let a = Any-from_list_any (λ m. m == l.number) (numbers_of w seat) e in
-        let x = Contains-from_map (λ (y : Listener). y.number) own a.0 a.1 (subst (λ n. a.0 < n) (length_of_map (λ (y : Listener). y.number) own) a.2) a.3 in
-        let number : (x.0).number ≡ l.number = x.2 ∙ same_number a.1 l.number a.4 in
-        let same : x.0 ≡ l = one_number w.listeners l x.0 h.rises c (Contains-from_filter (λ (y : Listener). y.seat == seat) w.listeners x.0 x.1) number in
-        subst (λ (y : Listener). (y.seat == seat) ≡ true) same (passes-from_filter (λ (y : Listener). y.seat == seat) w.listeners x.0 x.1)
+closed w seat h = numbered (λ l. not (l.seat == seat)) (numbers_of w seat) w.listeners (seat_ends w seat h)
 
 -- ---- a step
+
+pub registered_more : (w : World) (s : Step) → IsSound w → (x : IsAdding (kind s)) → registered (listeners_after w s) ≡ with_listener (registered w.listeners) w.next_listener (form x.query)
+registered_more w s h x =
+    ap registered (x.listeners w)
+    ∙ map-append (λ (l : Listener). (l.number, form l.query)) w.listeners (first_seen w x.seat x.query ∷ [])
+    ∙ one_more w (form x.query) h
+
+pub registered_fewer : (w : World) (s : Step) → IsSound w → (x : IsEnding (kind s)) → registered (listeners_after w s) ≡ without_listeners (registered w.listeners) (x.numbers w)
+registered_fewer w s h x = ap registered (x.listeners w) ∙ numbered (x.stays w) (x.numbers w) w.listeners (x.others w h)
+
+pub registered_left : (w : World) (s : Step) → (x : IsRevoking (kind s)) → registered (listeners_after w s) ≡ left_after (cover_in w) x.tag
+registered_left w s x = ap registered (x.listeners w) ∙ revoked_left w x.tag
 
 by_listeners : (w : World) (s : Step) (ls : List Registered) → registered (listeners_after w s) ≡ ls → cover_in (next w s) ≡ with_listeners (cover_in w) ls
 by_listeners w s ls e =
@@ -120,16 +111,13 @@ unchanged w s h e =
     λ i. record { listeners = rs i; kept = kept i; next_tag = tag i; last_tag = w.limits.last_number }
 
 pub follows : (w : World) (s : Step) → IsSound w → cover_in (next w s) ≡ cover_after w s
-follows w (Step.Listen seat query) h = by_listeners w (Step.Listen seat query) _ (map-append (λ (l : Listener). (l.number, form l.query)) w.listeners _ ∙ one_more w (form query) h)
-follows w (Step.Unlisten seat listener) h = by_listeners w (Step.Unlisten seat listener) _ (unlistened w listener)
-follows w (Step.Revoked tag why) h = by_listeners w (Step.Revoked tag why) _ (revoked_left w tag)
-follows w (Step.CloseSeat seat) h = by_listeners w (Step.CloseSeat seat) _ (closed w seat h)
-follows w (Step.Write seat action) h = unchanged w (Step.Write seat action) h refl
-follows w (Step.OnDisconnect seat ending) h = unchanged w (Step.OnDisconnect seat ending) h refl
-follows w (Step.Data tag path tree) h = unchanged w (Step.Data tag path tree) h refl
-follows w (Step.DataMerge tag entries) h = unchanged w (Step.DataMerge tag entries) h refl
-follows w (Step.Push parts) h = unchanged w (Step.Push parts) h refl
-follows w (Step.Accepted id) h = unchanged w (Step.Accepted id) h refl
-follows w (Step.Refused id why) h = unchanged w (Step.Refused id why) h refl
-follows w Step.Connected h = unchanged w Step.Connected h refl
-follows w Step.Disconnected h = unchanged w Step.Disconnected h refl
+follows w s h = at (orderly s).listeners
+  where
+    by : (o : Option (World → Change)) → (kind s).change ≡ o → option_map_or (changed (cover_in w)) (option_map (λ (c : World → Change). c w) o) (cover_in w) ≡ cover_after w s
+    by o e = ap (λ x. option_map_or (changed (cover_in w)) (option_map (λ (c : World → Change). c w) x) (cover_in w)) (sym e)
+
+    at : Listening (kind s) → cover_in (next w s) ≡ cover_after w s
+    at (still x) = unchanged w s h (x.listeners w) ∙ by None x.change
+    at (adding x) = by_listeners w s _ (registered_more w s h x) ∙ by (Some (λ v. Add v.next_listener x.query)) x.change
+    at (removing x) = by_listeners w s _ (registered_fewer w s h x) ∙ by (Some (λ v. Remove (x.numbers v))) x.change
+    at (revoking x) = by_listeners w s _ (registered_left w s x) ∙ by (Some (λ v. Revoke x.tag)) x.change

@@ -24,7 +24,8 @@ use Rattle.rt_world.specs.Runs.{events_of, events, heard_after}
 use Rattle.rt_world.specs.Headline.{AreKept, IsKept, IsShown, IsUpToDate, changes_told, begun, ended, Moves, Sends, server_after, Leads, Headline}
 use Rattle.rt_world.specs.Sound.{cover_of, IsSound}
 use Rattle.rt_world.proofs.Listeners.{same_number, has_number, has_number-there, has_number-renewed, not_bound, view_before-there, view_before-none}
-use Rattle.rt_world.proofs.ShowLaws.{left_or_more, first_seen, step_up_to_date, told-absent}
+use Rattle.rt_world.proofs.KindLaws.{first_seen}
+use Rattle.rt_world.proofs.ShowLaws.{left_or_more, step_up_to_date, told-absent}
 use Rattle.rt_world.proofs.HeardLaws.{fold-append, heard-step, heard-done, heard-events, heard_by-append, heard_by-listens, heard_by-requests, done_connected}
 use Rattle.rt_world.proofs.MovesLaws.{moves}
 use Rattle.rt_world.proofs.SoundLaws.{sound_empty, sound_step, sound_run}

@@ -1,5 +1,5 @@
 -- What the server heard of is what is kept.
-use Rattle.std.proofs.Common.{◌≡◌, ℕ, zero, suc, ◌+◌, ◌<◌, ◌≤◌, Bool, true, false, cond, not, ◌&&◌, ◌||◌, ◌==◌, List, [], ◌∷◌, ◌++◌, map, length, refl, sym, ap, subst, ◌∙◌, append-nil, append_assoc, arith, slice_index_or, inl, inr, Option, Some, None, is_none}
+use Rattle.std.proofs.Common.{◌≡◌, ℕ, zero, suc, ◌+◌, ◌<◌, ◌≤◌, Bool, true, false, cond, not, ◌&&◌, ◌||◌, ◌==◌, List, [], ◌∷◌, ◌++◌, map, length, refl, sym, ap, subst, ◌∙◌, append-nil, append_assoc, arith, slice_index_or, inl, inr, Option, Some, None, is_none, is_some}
 use mathlib.Core.Bool.{true≢false}
 use Rattle.std.specs.Cmp.{nat_eq_equiv}
 use Rattle.std.specs.List.{filter, fold, find, list_any, enumerate_from, All, Contains}
@@ -23,14 +23,15 @@ use Rattle.rt_wire.specs.declared.client.ClientMessage.{ClientMessage}
 use Rattle.rt_wire.specs.declared.request.Asked.{Asked}
 use Rattle.rt_world.specs.declared.step.Request.{Request}
 use Rattle.rt_world.specs.declared.step.Step.{Step}
-use Rattle.rt_world.specs.World.{World, Listener, registered, listen_of}
+use Rattle.rt_world.specs.World.{Reason, World, Listener, registered, listen_of}
 use Rattle.rt_world.specs.After.{kind, listeners_after, forms_after, kept_after, started_by}
 use Rattle.rt_world.specs.steps.Revoking.{is_cancelled}
-use Rattle.rt_world.specs.Messages.{unrevoked, stopped_by, listens, unlistens, request_message, request_sent, messages_online, messages_of, kept_before, heard_by, next}
+use Rattle.rt_world.specs.Messages.{unrevoked, stopped_by, greeting, listens, unlistens, request_message, request_sent, messages_online, messages_of, kept_before, heard_by, next}
 use Rattle.rt_world.specs.Refusals.{is_done}
 use Rattle.rt_world.specs.Answers.{step_by}
-use Rattle.rt_world.specs.Runs.{Event, Opened, Made, events_before, heard_after}
+use Rattle.rt_world.specs.Runs.{Event, Opened, Made, Ended, events_before, heard_after}
 use Rattle.rt_world.specs.Sound.{cover_of, IsSound}
+use Rattle.rt_world.proofs.KindLaws.{Listening, still, adding, removing, revoking, IsRevoking, orderly}
 use Rattle.rt_world.proofs.Listeners.{same_number, other_number}
 use Rattle.rt_world.proofs.ShowLaws.{filter_true}
 
@@ -240,64 +241,102 @@ started-same w s h e =
     ap (λ ls. started w.next_tag w.kept (needed (forms (registered ls)))) e
     ∙ started_for-same w.next_tag w.kept (needed (forms (registered w.listeners))) (h.listens).all
 
+-- messages are heard one after another
+heard-messages : (c : List Tagged) (ms : List ClientMessage) → fold heard_after c (map Made ms) ≡ fold heard_by c ms
+heard-messages c [] = refl
+heard-messages c (m ∷ ms) = heard-messages (heard_by c m) ms
+
+-- before them what the step is besides
+heard-before : (s : Step) (c : List Tagged) → fold heard_after c (events_before s) ≡ kept_before s c
+heard-before s c = at (kind s).opens (kind s).revoked (λ e. ((orderly s).opens e).0.revoked)
+  where
+    at : (opens : Bool) (o : Option (ℕ × Reason)) → (opens ≡ true → o ≡ None)
+        → fold heard_after c (option_map_or (λ (r : ℕ × Reason). Ended r.0 ∷ []) o (cond opens (Opened ∷ []) []))
+        ≡ cond opens [] (option_map_or (λ (r : ℕ × Reason). filter (λ (k : Tagged). not (k.tag == r.0)) c) o c)
+    at true None h = refl
+    at true (Some r) h = absurd (true≢false (ap is_some (h refl)))
+    at false None h = refl
+    at false (Some r) h = refl
+
 -- a revoked listen does not stay: the listeners of its form end
-revoked_goes : (w : World) (tag : ℕ) (why : List ℕ) → IsSound w → (k : Tagged) → Contains w.kept k → (k.tag == tag) ≡ true → stays w (Step.Revoked tag why) k ≡ false
-revoked_goes w tag why h k m e =
-    elim (stays w (Step.Revoked tag why) k) as (λ b. stays w (Step.Revoked tag why) k ≡ b → b ≡ false) [
+revoked_goes : (w : World) (s : Step) (r : IsRevoking (kind s)) → IsSound w → (k : Tagged) → Contains w.kept k → (k.tag == r.tag) ≡ true → stays w s k ≡ false
+revoked_goes w s r h k m e =
+    elim (stays w s k) as (λ b. stays w s k ≡ b → b ≡ false) [
       | false ↦ λ f. refl
       | true ↦ λ f.
-          let in_needed = Contains-from_test k.form (needed (forms_after w (Step.Revoked tag why))) f in
-          let in_forms = Contains-from_filter (λ g. not (is_covered (forms_after w (Step.Revoked tag why)) g)) (forms_after w (Step.Revoked tag why)) k.form in_needed in
+          let in_needed = Contains-from_test k.form (needed (forms_after w s)) f in
+          let in_forms = Contains-from_filter (λ g. not (is_covered (forms_after w s) g)) (forms_after w s) k.form in_needed in
           let l = found (registered left) k.form in_forms in
           let x = Contains-from_map (λ (y : Listener). (y.number, form y.query)) left (l.1).0 l.0 (subst (λ z. (l.1).0 < z) (length_of_map (λ (y : Listener). (y.number, form y.query)) left) (l.1).1) (l.1).2 in
           let is_form : form (x.0).query ≡ k.form = ap (λ (z : Registered). z.1) x.2 ∙ l.2 in
-          let stayed = passes-from_filter (λ y. not (is_cancelled w tag y)) w.listeners x.0 x.1 in
+          let stayed = passes-from_filter (λ y. not (is_cancelled w r.tag y)) w.listeners x.0 (subst (λ ls. Contains ls x.0) (r.listeners w) x.1) in
           absurd (true≢false (sym stayed ∙ ap not (ap (λ o. option_map_or (query_eq (form (x.0).query)) o false) revoked ∙ (query_eq_tells (form (x.0).query) k.form).1 is_form)))
     ] refl
   where
     left : List Listener
-    left = listeners_after w (Step.Revoked tag why)
+    left = listeners_after w s
 
-    revoked : listen_of w tag ≡ Some k.form
-    revoked = ap (option_map (λ (x : Tagged). x.form)) (find_only (λ (x : Tagged). x.tag == tag) w.kept k
-        (λ y n f. one_tag w h y k n m (same_number y.tag tag f ∙ sym (same_number k.tag tag e))) m e)
+    revoked : listen_of w r.tag ≡ Some k.form
+    revoked = ap (option_map (λ (x : Tagged). x.form)) (find_only (λ (x : Tagged). x.tag == r.tag) w.kept k
+        (λ y n f. one_tag w h y k n m (same_number y.tag r.tag f ∙ sym (same_number k.tag r.tag e))) m e)
+
+-- which tags a step revokes: none of these listens stays
+record Revokes (w : World) (s : Step) : Type 0 where
+  test : ℕ → Bool
+  gone : (k : Tagged) → Contains w.kept k → test k.tag ≡ true → stays w s k ≡ false
+  is : (kept : List Tagged) → unrevoked s kept ≡ filter (λ k. not (test k.tag)) kept
+
+revokes : (w : World) (s : Step) → IsSound w → Revokes w s
+revokes w s h = at (orderly s).listeners
+  where
+    left : List Tagged → Option (ℕ × Reason) → List Tagged
+    left kept o = option_map_or (λ (r : ℕ × Reason). filter (λ (k : Tagged). not (k.tag == r.0)) kept) o kept
+
+    nothing : (kind s).revoked ≡ None → Revokes w s
+    nothing e = record {
+      test = λ n. false;
+      gone = λ k m f. absurd (true≢false (sym f));
+      is = λ kept. ap (left kept) e ∙ sym (filter_true kept);
+    }
+
+    at : Listening (kind s) → Revokes w s
+    at (still x) = nothing x.revoked
+    at (adding x) = nothing x.revoked
+    at (removing x) = nothing x.revoked
+    at (revoking x) = record { test = λ n. n == x.tag; gone = revoked_goes w s x h; is = λ kept. ap (left kept) x.revoked }
 
 -- a step of a connection that goes on
-heard-going : (w : World) (s : Step) (c : List Tagged) (test : ℕ → Bool) → IsSound w → ((k : Tagged) → Contains w.kept k → test k.tag ≡ true → stays w s k ≡ false)
-    → ((kept : List Tagged) → unrevoked s kept ≡ filter (λ k. not (test k.tag)) kept)
-    → (w.is_connected ≡ true → c ≡ w.kept) → w.is_connected ≡ true
-    → messages_of w s ≡ cond w.is_connected (messages_online w s) [] → fold heard_after w.kept (events_before s) ≡ unrevoked s w.kept
+heard-going : (w : World) (s : Step) (c : List Tagged) → IsSound w → (w.is_connected ≡ true → c ≡ w.kept) → (kind s).opens ≡ false → w.is_connected ≡ true
+    → messages_of w s ≡ cond w.is_connected (messages_online w s) []
     → fold heard_after c (events_before s ++ map Made (messages_of w s)) ≡ kept_after w s
-heard-going w s c test h dropped is same online messages before =
+heard-going w s c h same o online messages =
+    let r = revokes w s h in
+    let before : fold heard_after w.kept (events_before s) ≡ unrevoked s w.kept = heard-before s w.kept ∙ ap (λ b. cond b [] (unrevoked s w.kept)) o in
     ap (λ z. fold heard_after z (events_before s ++ map Made (messages_of w s))) (same online)
     ∙ fold-append w.kept (events_before s) (map Made (messages_of w s))
     ∙ (λ i. fold heard_after (before i) (map Made ((messages ∙ ap (λ b. cond b (messages_online w s) []) online) i)))
-    ∙ heard-online w s test h dropped is
-
--- one that revokes nothing
-heard-ordinary : (w : World) (s : Step) (c : List Tagged) → IsSound w → ((kept : List Tagged) → unrevoked s kept ≡ kept) → (w.is_connected ≡ true → c ≡ w.kept) → w.is_connected ≡ true
-    → messages_of w s ≡ cond w.is_connected (messages_online w s) [] → events_before s ≡ []
-    → fold heard_after c (events_before s ++ map Made (messages_of w s)) ≡ kept_after w s
-heard-ordinary w s c h is same online messages before =
-    heard-going w s c (λ n. false) h (λ k m e. absurd (true≢false (sym e))) (λ kept. is kept ∙ sym (filter_true kept)) same online messages
-    (ap (fold heard_after w.kept) before ∙ sym (is w.kept))
+    ∙ heard-online w s r.test h r.gone r.is
 
 pub heard-done : (w : World) (s : Step) (c : List Tagged) → IsSound w → (w.is_connected ≡ true → c ≡ w.kept) → (next w s).is_connected ≡ true
     → fold heard_after c (events_before s ++ map Made (messages_of w s)) ≡ kept_after w s
-heard-done w Step.Connected c h same online = heard-opened w c ∙ sym (kept-same w Step.Connected h refl)
-heard-done w Step.Disconnected c h same online = absurd (true≢false (sym online))
-heard-done w (Step.Revoked tag why) c h same online =
-    heard-going w (Step.Revoked tag why) c (λ n. n == tag) h (revoked_goes w tag why h) (λ kept. refl) same online refl refl
-heard-done w (Step.Listen seat query) c h same online = heard-ordinary w (Step.Listen seat query) c h (λ _. refl) same online refl refl
-heard-done w (Step.Unlisten seat listener) c h same online = heard-ordinary w (Step.Unlisten seat listener) c h (λ _. refl) same online refl refl
-heard-done w (Step.Write seat action) c h same online = heard-ordinary w (Step.Write seat action) c h (λ _. refl) same online refl refl
-heard-done w (Step.OnDisconnect seat ending) c h same online = heard-ordinary w (Step.OnDisconnect seat ending) c h (λ _. refl) same online refl refl
-heard-done w (Step.Data tag path tree) c h same online = heard-ordinary w (Step.Data tag path tree) c h (λ _. refl) same online refl refl
-heard-done w (Step.DataMerge tag entries) c h same online = heard-ordinary w (Step.DataMerge tag entries) c h (λ _. refl) same online refl refl
-heard-done w (Step.Push parts) c h same online = heard-ordinary w (Step.Push parts) c h (λ _. refl) same online refl refl
-heard-done w (Step.Accepted id) c h same online = heard-ordinary w (Step.Accepted id) c h (λ _. refl) same online refl refl
-heard-done w (Step.Refused id why) c h same online = heard-ordinary w (Step.Refused id why) c h (λ _. refl) same online refl refl
-heard-done w (Step.CloseSeat seat) c h same online = heard-ordinary w (Step.CloseSeat seat) c h (λ _. refl) same online refl refl
+heard-done w s c h same online = at (kind s).opens (kind s).closes refl refl
+  where
+    rest : Bool → List ClientMessage
+    rest closes = cond closes [] (cond w.is_connected (messages_online w s) [])
+
+    opening : (kind s).opens ≡ true → fold heard_after c (events_before s ++ map Made (messages_of w s)) ≡ kept_after w s
+    opening o =
+        let x = ((orderly s).opens o).0 in
+        let before : events_before s ≡ Opened ∷ [] = λ i. option_map_or (λ (r : ℕ × Reason). Ended r.0 ∷ []) (x.revoked i) (cond (o i) (Opened ∷ []) []) in
+        let messages : messages_of w s ≡ greeting w = ap (λ b. cond b (greeting w) (rest (kind s).closes)) o in
+        (λ i. fold heard_after c (before i ++ map Made (messages i))) ∙ heard-opened w c ∙ sym (kept-same w s h (x.listeners w))
+
+    at : (opens closes : Bool) → (kind s).opens ≡ opens → (kind s).closes ≡ closes → fold heard_after c (events_before s ++ map Made (messages_of w s)) ≡ kept_after w s
+    at true closes o e = opening o
+    at false true o e = absurd (true≢false (sym online ∙ (λ i. cond (o i) true (cond (e i) false w.is_connected))))
+    at false false o e =
+        heard-going w s c h same o (sym (λ i. cond (o i) true (cond (e i) false w.is_connected)) ∙ online)
+        (λ i. cond (o i) (greeting w) (rest (e i)))
 
 pub heard-step : (w : World) (s : Step) (c : List Tagged) (o : Option CoreError) (b : Bool) → IsSound w → (w.is_connected ≡ true → c ≡ w.kept)
     → (step_by o b w s).0.is_connected ≡ true → fold heard_after c (cond (is_none o && not b) (events_before s ++ map Made (messages_of w s)) []) ≡ (step_by o b w s).0.kept
@@ -306,27 +345,6 @@ heard-step w s c None true h same online = same online
 heard-step w s c None false h same online = heard-done w s c h same online
 
 -- ---- step by step
-
--- messages are heard one after another
-heard-messages : (c : List Tagged) (ms : List ClientMessage) → fold heard_after c (map Made ms) ≡ fold heard_by c ms
-heard-messages c [] = refl
-heard-messages c (m ∷ ms) = heard-messages (heard_by c m) ms
-
--- before them what the step is besides
-heard-before : (s : Step) (c : List Tagged) → fold heard_after c (events_before s) ≡ kept_before s c
-heard-before Step.Connected c = refl
-heard-before Step.Disconnected c = refl
-heard-before (Step.Revoked tag why) c = refl
-heard-before (Step.Listen seat query) c = refl
-heard-before (Step.Unlisten seat listener) c = refl
-heard-before (Step.Write seat action) c = refl
-heard-before (Step.OnDisconnect seat ending) c = refl
-heard-before (Step.Data tag path tree) c = refl
-heard-before (Step.DataMerge tag entries) c = refl
-heard-before (Step.Push parts) c = refl
-heard-before (Step.Accepted id) c = refl
-heard-before (Step.Refused id why) c = refl
-heard-before (Step.CloseSeat seat) c = refl
 
 pub heard-events : (s : Step) (c : List Tagged) (ms : List ClientMessage) → fold heard_after c (events_before s ++ map Made ms) ≡ fold heard_by (kept_before s c) ms
 heard-events s c ms =

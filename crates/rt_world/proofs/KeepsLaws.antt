@@ -1,5 +1,5 @@
 -- Which listens a step begins and ends, and under which tags.
-use Rattle.std.proofs.Common.{◌≡◌, ℕ, ◌+◌, ◌<◌, ◌≤◌, Bool, false, not, List, [], ◌++◌, map, length, refl, sym, ap, subst, ◌∙◌, ◌||◌, nat_le, nat_lt, ◌⊎◌, inl, inr, arith, slice_index_or, None}
+use Rattle.std.proofs.Common.{◌≡◌, ℕ, ◌+◌, ◌<◌, ◌≤◌, Bool, false, not, List, [], ◌++◌, map, length, refl, sym, ap, subst, ◌∙◌, inl, inr, arith, slice_index_or, None}
 use Rattle.std.specs.List.{filter, list_any, enumerate_from, All, AllPairs, Contains}
 use Rattle.std.proofs.lemmas.List.Elements.{All-contains, All-map, Contains-append_right, Contains-get_or, filter-append, filter_passes}
 use Rattle.std.proofs.lemmas.List.Folds.{list_any_at}
@@ -22,9 +22,9 @@ use Rattle.rt_world.specs.Refusals.{refusal}
 use Rattle.rt_world.specs.Limited.{IsAllowed}
 use Rattle.rt_world.specs.Sound.{cover_of, IsSound}
 use Rattle.rt_world.specs.Headline.{Keeps}
-use Rattle.rt_world.proofs.Listeners.{registered-renewed, or_false_right}
-use Rattle.rt_world.proofs.HeardLaws.{map-append, stays, started-same}
-use Rattle.rt_world.proofs.LimitLaws.{allowed, tag}
+use Rattle.rt_world.proofs.Listeners.{registered-renewed}
+use Rattle.rt_world.proofs.HeardLaws.{map-append, stays}
+use Rattle.rt_world.proofs.LimitLaws.{allowed, has_tags}
 use Rattle.rt_world.proofs.SoundLaws.{sound_next}
 
 -- those that are kept after it and not before are those that it starts
@@ -66,22 +66,6 @@ kept_again n kept fs = λ i. sym stay i ++ map (λ (x : ℕ × Query). record { 
         ∙ filter-append is_new (map (λ (k : Tagged). k.form) (filter lasts kept)) (map (λ (k : Tagged). k.form) (started n kept fs))
         ∙ (λ i. old i ++ filter is_new (keep.forms-started n (filter is_new fs) i))
         ∙ filter_all is_new (filter is_new fs) (filter_passes is_new fs)
-
--- a step that starts listens has tags for them
-has_tags : (w : World) (s : Step) → IsSound w → IsAllowed w s → (started_by w s ≡ []) ⊎ (w.next_tag + length (started_by w s) ≤ w.limits.last_number + 1)
-has_tags w (Step.Listen seat query) h a = inr (tag w (Step.Listen seat query) (or_false_right (nat_le w.limits.listeners (length w.listeners) || nat_lt w.limits.last_number w.next_listener) _ a.listeners))
-has_tags w (Step.Unlisten seat listener) h a = inr (tag w (Step.Unlisten seat listener) a.listeners)
-has_tags w (Step.Revoked t why) h a = inr (tag w (Step.Revoked t why) a.revoked)
-has_tags w (Step.CloseSeat seat) h a = inr (tag w (Step.CloseSeat seat) a.listeners)
-has_tags w (Step.Write seat action) h a = inl (started-same w (Step.Write seat action) h refl)
-has_tags w (Step.OnDisconnect seat ending) h a = inl (started-same w (Step.OnDisconnect seat ending) h refl)
-has_tags w (Step.Accepted id) h a = inl (started-same w (Step.Accepted id) h refl)
-has_tags w (Step.Refused id why) h a = inl (started-same w (Step.Refused id why) h refl)
-has_tags w (Step.Data t path tree) h a = inl (started-same w (Step.Data t path tree) h refl)
-has_tags w (Step.DataMerge t entries) h a = inl (started-same w (Step.DataMerge t entries) h refl)
-has_tags w (Step.Push parts) h a = inl (started-same w (Step.Push parts) h refl)
-has_tags w Step.Connected h a = inl (started-same w Step.Connected h refl)
-has_tags w Step.Disconnected h a = inl (started-same w Step.Disconnected h refl)
 
 none_above : (w : World) (s : Step) → IsSound w → IsAllowed w s → All (λ (k : Tagged). k.tag ≤ w.limits.last_number) (started_by w s)
 none_above w s h a = elim (has_tags w s h a) [

@@ -8,6 +8,7 @@ pub mod HeardLaws
 pub mod HoldsLaws
 pub mod KeepsLaws
 pub mod KeptLaws
+pub mod KindLaws
 pub mod LimitLaws
 pub mod ListenedLaws
 pub mod Listeners

@@ -1,19 +1,22 @@
 -- The messages to be sent are those that the steps make.
-use Rattle.std.proofs.Common.{◌≡◌, Bool, true, false, cond, not, ◌&&◌, List, [], ◌∷◌, ◌++◌, map, refl, sym, ap, subst, ◌∙◌, append-nil, append_assoc, Option, Some, None, is_none}
+use Rattle.std.proofs.Common.{◌≡◌, ℕ, Bool, true, false, cond, not, ◌&&◌, ◌||◌, List, [], ◌∷◌, ◌++◌, map, refl, sym, ap, subst, ◌∙◌, append-nil, append_assoc, Option, Some, None, is_none}
 use mathlib.Core.Bool.{true≢false}
 use Rattle.std.specs.List.{fold, list_any}
+use Rattle.std.specs.Option.{option_map_or}
 use Rattle.rt_world.specs.declared.error.CoreError.{CoreError}
 use Rattle.rt_wire.specs.declared.client.ClientMessage.{ClientMessage}
 use Rattle.rt_world.specs.declared.step.Step.{Step}
-use Rattle.rt_world.specs.World.{World}
+use Rattle.rt_world.specs.World.{Reason, World}
+use Rattle.rt_world.specs.After.{kind}
 use Rattle.rt_wire.specs.declared.limits.TheConstants.{VERSION}
-use Rattle.rt_world.specs.Messages.{listens, request_message, messages_of, outgoing_before, next}
+use Rattle.rt_world.specs.Messages.{greeting, listens, request_message, messages_online, messages_of, outgoing_before, next}
 use Rattle.rt_world.specs.Refusals.{refusal, is_stale}
 use Rattle.rt_world.specs.Answers.{step, step_by, world_after}
 use Rattle.rt_world.specs.Runs.{Event, Opened, Made, Ended, events_before, events_of, events, made_after, is_opened}
 use Rattle.rt_world.specs.Sound.{IsSound}
 use Rattle.rt_world.specs.laws.World.{MessagesAreHeard, SendsAll, ConnectedSendsAll}
 use Rattle.rt_world.proofs.HeardLaws.{kept-same}
+use Rattle.rt_world.proofs.KindLaws.{orderly}
 use Rattle.rt_world.proofs.SoundLaws.{sound_next}
 use Rattle.rt_world.proofs.HeadlineLaws.{heard_all}
 
@@ -25,30 +28,41 @@ made-messages : (c ms : List ClientMessage) → fold made_after c (map Made ms) 
 made-messages c [] = sym (append-nil c)
 made-messages c (m ∷ ms) = made-messages (c ++ m ∷ []) ms ∙ append_assoc c (m ∷ []) ms
 
--- a step of a connection that goes on adds its messages
-made-going : (w : World) (s : Step) (c : List ClientMessage) → (w.is_connected ≡ true → c ≡ w.outgoing) → w.is_connected ≡ true
-    → fold made_after c (events_before s) ≡ c → outgoing_before w s ≡ w.outgoing
-    → fold made_after c (events_before s ++ map Made (messages_of w s)) ≡ outgoing_before w s ++ messages_of w s
-made-going w s c same online before out =
-    made-append c (events_before s) (map Made (messages_of w s))
-    ∙ (λ i. fold made_after ((before ∙ same online ∙ sym out) i) (map Made (messages_of w s)))
-    ∙ made-messages (outgoing_before w s) (messages_of w s)
-
 made-done : (w : World) (s : Step) (c : List ClientMessage) → (w.is_connected ≡ true → c ≡ w.outgoing) → (next w s).is_connected ≡ true
     → fold made_after c (events_before s ++ map Made (messages_of w s)) ≡ (next w s).outgoing
-made-done w Step.Connected c same online = made-messages [] (messages_of w Step.Connected)
-made-done w Step.Disconnected c same online = absurd (true≢false (sym online))
-made-done w (Step.Revoked tag why) c same online = made-going w (Step.Revoked tag why) c same online refl refl
-made-done w (Step.Listen seat query) c same online = made-going w (Step.Listen seat query) c same online refl refl
-made-done w (Step.Unlisten seat listener) c same online = made-going w (Step.Unlisten seat listener) c same online refl refl
-made-done w (Step.Write seat action) c same online = made-going w (Step.Write seat action) c same online refl refl
-made-done w (Step.OnDisconnect seat ending) c same online = made-going w (Step.OnDisconnect seat ending) c same online refl refl
-made-done w (Step.Data tag path tree) c same online = made-going w (Step.Data tag path tree) c same online refl refl
-made-done w (Step.DataMerge tag entries) c same online = made-going w (Step.DataMerge tag entries) c same online refl refl
-made-done w (Step.Push parts) c same online = made-going w (Step.Push parts) c same online refl refl
-made-done w (Step.Accepted id) c same online = made-going w (Step.Accepted id) c same online refl refl
-made-done w (Step.Refused id why) c same online = made-going w (Step.Refused id why) c same online refl refl
-made-done w (Step.CloseSeat seat) c same online = made-going w (Step.CloseSeat seat) c same online refl refl
+made-done w s c same online = at (kind s).opens (kind s).closes refl refl
+  where
+    rest : Bool → List ClientMessage
+    rest closes = cond closes [] (cond w.is_connected (messages_online w s) [])
+
+    -- one that opens a connection begins with none
+    opening : (kind s).opens ≡ true → fold made_after c (events_before s ++ map Made (messages_of w s)) ≡ (next w s).outgoing
+    opening o =
+        let x = ((orderly s).opens o).0 in
+        let before : events_before s ≡ Opened ∷ [] = λ i. option_map_or (λ (r : ℕ × Reason). Ended r.0 ∷ []) (x.revoked i) (cond (o i) (Opened ∷ []) []) in
+        let messages : messages_of w s ≡ greeting w = ap (λ b. cond b (greeting w) (rest (kind s).closes)) o in
+        let out : outgoing_before w s ≡ [] = ap (λ b. cond (b || (kind s).closes) [] w.outgoing) o in
+        (λ i. fold made_after c (before i ++ map Made (messages i))) ∙ made-messages [] (greeting w) ∙ (λ i. sym out i ++ sym messages i)
+
+    -- one of a connection that goes on adds its messages
+    going : (kind s).opens ≡ false → (kind s).closes ≡ false → fold made_after c (events_before s ++ map Made (messages_of w s)) ≡ (next w s).outgoing
+    going o e =
+        let on : w.is_connected ≡ true = sym (λ i. cond (o i) true (cond (e i) false w.is_connected)) ∙ online in
+        let out : outgoing_before w s ≡ w.outgoing = λ i. cond (o i || e i) [] w.outgoing in
+        made-append c (events_before s) (map Made (messages_of w s))
+        ∙ (λ i. fold made_after ((before ∙ same on ∙ sym out) i) (map Made (messages_of w s)))
+        ∙ made-messages (outgoing_before w s) (messages_of w s)
+      where
+        before : fold made_after c (events_before s) ≡ c
+        before = elim (kind s).revoked as (λ x. fold made_after c (option_map_or (λ (r : ℕ × Reason). Ended r.0 ∷ []) x (cond (kind s).opens (Opened ∷ []) [])) ≡ c) [
+          | Some r ↦ refl
+          | None ↦ ap (λ b. fold made_after c (cond b (Opened ∷ []) [])) o
+        ]
+
+    at : (opens closes : Bool) → (kind s).opens ≡ opens → (kind s).closes ≡ closes → fold made_after c (events_before s ++ map Made (messages_of w s)) ≡ (next w s).outgoing
+    at true closes o e = opening o
+    at false true o e = absurd (true≢false (sym online ∙ (λ i. cond (o i) true (cond (e i) false w.is_connected))))
+    at false false o e = going o e
 
 made-step : (w : World) (s : Step) (c : List ClientMessage) (o : Option CoreError) (b : Bool) → (w.is_connected ≡ true → c ≡ w.outgoing) → (step_by o b w s).0.is_connected ≡ true
     → fold made_after c (cond (is_none o && not b) (events_before s ++ map Made (messages_of w s)) []) ≡ (step_by o b w s).0.outgoing

@@ -3,7 +3,7 @@ use Rattle.std.proofs.Common.{◌≡◌, ℕ, zero, suc, ◌<◌, Bool, true, fa
 use mathlib.Core.Bool.{true≢false}
 use Rattle.std.specs.Prelude.{is_none}
 use Rattle.std.specs.List.{find, fold, All, Contains}
-use Rattle.std.specs.Option.{option_map, option_map_or}
+use Rattle.std.specs.Option.{option_map_or}
 use Rattle.std.proofs.lemmas.List.Elements.{All-contains, All-map, Contains-append_cases, Contains-get_or}
 use Rattle.rt_query.specs.Queries.{Query}
 use Rattle.rt_writes.specs.Writes.{Write}
@@ -12,12 +12,12 @@ use Rattle.rt_cache.specs.Recover.{recover}
 use Rattle.rt_cover.specs.Cover.{Tagged}
 use Rattle.rt_cover.specs.laws.CoverLaws.{Contains-from_filter}
 use Rattle.rt_world.specs.declared.error.CoreError.{CoreError}
-use Rattle.rt_world.specs.declared.error.CoreError.TheVariants.{AlreadyConnected}
 use Rattle.rt_wire.specs.declared.client.ClientMessage.{ClientMessage}
+use Rattle.rt_world.specs.declared.step.Request.{Request}
 use Rattle.rt_world.specs.declared.step.Step.{Step}
 use Rattle.rt_world.specs.Views.{is_known}
 use Rattle.rt_world.specs.World.{World, Listener, listening, pending}
-use Rattle.rt_world.specs.After.{listeners_after, requests_after, brought_after, kept_after, pushed, renewed, is_connected_after}
+use Rattle.rt_world.specs.After.{kind, listeners_after, requests_after, brought_after, kept_after, pushed, renewed, is_connected_after}
 use Rattle.rt_wire.specs.declared.limits.TheConstants.{VERSION}
 use Rattle.rt_world.specs.Messages.{greeting, listens, unlistens, request_message, request_sent, stopped_by, messages_online, messages_of, outgoing_before, kept_before, heard_by, next}
 use Rattle.rt_world.specs.Refusals.{refusal, is_stale, is_done}
@@ -26,7 +26,9 @@ use Rattle.rt_world.specs.Headline.{AreKept, begun, ended, sent_due, Sends, Keep
 use Rattle.rt_world.specs.laws.Makes.{report_of, primed_in, unseen, Makes, MakesOrLeaves, Tells, StepTells}
 use Rattle.rt_world.specs.Sound.{IsSound}
 use Rattle.rt_world.proofs.Listeners.{find-number, find-no_number, not_bound, number-renewed, primed_view, query-renewed, registered-renewed}
-use Rattle.rt_world.proofs.ShowLaws.{first_seen, left_or_more, step_up_to_date}
+use Rattle.rt_world.proofs.KindLaws.{first_seen, orderly}
+use Rattle.rt_world.proofs.LimitLaws.{allowed}
+use Rattle.rt_world.proofs.ShowLaws.{left_or_more, step_up_to_date}
 use Rattle.rt_world.proofs.HeardLaws.{heard-done, heard-events}
 use Rattle.rt_world.proofs.KeepsLaws.{begun_are, keeps}
 
@@ -116,32 +118,35 @@ sends_going w s h same messages =
     twice true xs ys = refl
     twice false xs ys = refl
 
--- one that opens a connection found none
-was_closed : (w : World) → refusal w Step.Connected ≡ None → w.is_connected ≡ false
-was_closed w r =
-    elim w.is_connected as (λ b. w.is_connected ≡ b → b ≡ false) [
-      | true ↦ λ e. absurd (some_none AlreadyConnected ((λ i. option_map (λ (x : Bool × CoreError). x.1) (cond (sym e i) (Some (sym e i, AlreadyConnected)) None)) ∙ r))
-      | false ↦ λ e. refl
-    ] refl
-  where
-    some_none : (x : CoreError) → ◌≡◌ {A = Option CoreError} (Some x) None → ⊥
-    some_none x e = cc
-
 sends : (w : World) (s : Step) → IsSound w → refusal w s ≡ None → Sends w s (next w s)
-sends w Step.Connected h r =
-    sends_of w Step.Connected h (λ i. cond (sym (was_closed w r) i) (listens (begun w (next w Step.Connected)) ++ unlistens (ended w Step.Connected (next w Step.Connected)) ++ request_sent w Step.Connected) (greeting w))
-sends w Step.Disconnected h r = sends_of w Step.Disconnected h refl
-sends w (Step.Listen seat query) h r = sends_going w (Step.Listen seat query) h refl refl
-sends w (Step.Unlisten seat listener) h r = sends_going w (Step.Unlisten seat listener) h refl refl
-sends w (Step.Write seat action) h r = sends_going w (Step.Write seat action) h refl refl
-sends w (Step.OnDisconnect seat ending) h r = sends_going w (Step.OnDisconnect seat ending) h refl refl
-sends w (Step.Data tag path tree) h r = sends_going w (Step.Data tag path tree) h refl refl
-sends w (Step.DataMerge tag entries) h r = sends_going w (Step.DataMerge tag entries) h refl refl
-sends w (Step.Push parts) h r = sends_going w (Step.Push parts) h refl refl
-sends w (Step.Accepted id) h r = sends_going w (Step.Accepted id) h refl refl
-sends w (Step.Refused id why) h r = sends_going w (Step.Refused id why) h refl refl
-sends w (Step.Revoked tag why) h r = sends_going w (Step.Revoked tag why) h refl refl
-sends w (Step.CloseSeat seat) h r = sends_going w (Step.CloseSeat seat) h refl refl
+sends w s h r = at (kind s).opens (kind s).closes refl refl
+  where
+    rest : Bool → List ClientMessage
+    rest closes = cond closes [] (cond w.is_connected (messages_online w s) [])
+
+    online : List ClientMessage
+    online = listens (begun w (next w s)) ++ unlistens (ended w s (next w s)) ++ request_sent w s
+
+    all : List Request → List ClientMessage
+    all rs = ClientMessage.Hello VERSION ∷ (listens w.kept ++ map request_message rs)
+
+    -- one that opens a connection found none
+    opening : (kind s).opens ≡ true → Sends w s (next w s)
+    opening o =
+        let off : w.is_connected ≡ false = sym (ap (λ b. b && w.is_connected) o) ∙ (allowed w s r).connected in
+        let requests : requests_after w s ≡ w.requests = ((orderly s).opens o).1 w in
+        sends_of w s h
+        (ap (λ b. cond b (greeting w) (rest (kind s).closes)) o
+        ∙ sym (λ i. cond (cond (o i) true (cond (kind s).closes false w.is_connected)) (cond (off i) online (all (requests i))) []))
+
+    at : (opens closes : Bool) → (kind s).opens ≡ opens → (kind s).closes ≡ closes → Sends w s (next w s)
+    at true closes o e = opening o
+    at false true o e =
+        sends_of w s h
+        ((λ i. cond (o i) (greeting w) (rest (e i)))
+        ∙ sym (λ i. cond (cond (o i) true (cond (e i) false w.is_connected)) (cond w.is_connected online (all (requests_after w s))) []))
+    at false false o e =
+        sends_going w s h (λ i. cond (o i) true (cond (e i) false w.is_connected)) (λ i. cond (o i) (greeting w) (rest (e i)))
 
 -- ---- what is made
 

@@ -1,5 +1,5 @@
 -- A step changes of what a listener sees what its entries name.
-use Rattle.std.proofs.Common.{◌≡◌, Bool, true, false, cond, not, ◌&&◌, ◌||◌, inl, inr, List, [], ◌∷◌, ◌++◌, length, ◌≤◌, arith, refl, sym, ap, subst, ◌∙◌, append-nil, append_assoc, Option, Some, None, is_some}
+use Rattle.std.proofs.Common.{◌≡◌, ℕ, Bool, true, false, cond, not, ◌&&◌, ◌||◌, ◌⊎◌, inl, inr, List, [], ◌∷◌, ◌++◌, length, ◌≤◌, arith, refl, sym, ap, subst, ◌∙◌, append-nil, append_assoc, Option, Some, None, is_some}
 use mathlib.Core.Bool.{true≢false}
 use Rattle.std.specs.List.{filter, filter_map, cons_option, flat_map, fold, list_any, Contains}
 use Rattle.std.specs.Option.{option_and_then, option_map_or}
@@ -22,16 +22,18 @@ use Rattle.rt_cache.proofs.Moves.{unmoved_same}
 use Rattle.rt_cache.specs.declared.brought.Base.{Base}
 use Rattle.rt_cover.specs.Cover.{distinct}
 use Rattle.rt_view.specs.Views.{with_named}
+use Rattle.rt_wire.specs.declared.request.Asked.{Asked}
 use Rattle.rt_world.specs.declared.error.CoreError.{CoreError}
 use Rattle.rt_world.specs.declared.step.Step.{Step}
 use Rattle.rt_world.specs.Views.{is_known, base_tree, is_base_whole, is_child_known, seen_over, view_of}
-use Rattle.rt_world.specs.World.{World, Listener, pending, listen_of}
+use Rattle.rt_world.specs.World.{Reason, World, Listener, pending, listen_of}
 use Rattle.rt_world.specs.steps.Kind.{Part}
+use Rattle.rt_world.specs.steps.Pushing.{push_of}
 use Rattle.rt_world.specs.After.{kind, requests_after, forms_after, part_pushed, pushed, brought_after, listeners_after}
 use Rattle.rt_world.specs.Messages.{next}
 use Rattle.rt_world.specs.Refusals.{refusal, is_stale}
 use Rattle.rt_world.specs.Answers.{step, step_by}
-use Rattle.rt_world.specs.Touched.{entries_by, named_by, children_named, is_named, is_covered, seen, children_at, IsInBoth}
+use Rattle.rt_world.specs.Touched.{entries_settled, entries_asked, entries_pushed, entries_by, named_by, children_named, is_named, is_covered, seen, children_at, IsInBoth}
 use Rattle.rt_world.specs.Called.{IsCalled}
 use Rattle.rt_world.specs.Reached.{IsReached}
 use Rattle.rt_world.specs.Sound.{IsSound}
@@ -40,6 +42,7 @@ use Rattle.rt_world.specs.laws.Steps.{UnmetStays}
 use Rattle.rt_world.specs.laws.World.{changes_listeners, OnlyNamedChange, LeafNamesAll, LeafReadsNamed, TouchedIsSeen, OthersKeepViews}
 use Rattle.rt_world.proofs.CalledLaws.{called_pushed}
 use Rattle.rt_world.proofs.CountLaws.{no_more_children}
+use Rattle.rt_world.proofs.KindLaws.{orderly}
 use Rattle.rt_world.proofs.Listeners.{or_false_left, or_false_right}
 use Rattle.rt_world.proofs.Reaching.{form_stays}
 use Rattle.rt_world.proofs.PushLaws.{AreApart, apart_of, apart_below, AlikeAt, alike_same, alike_trans, pushes_alike, pushes_source, pushes_canonical}
@@ -170,19 +173,16 @@ leaves_same : (w : World) (d : Path) (q : Query) (b : Brought) → LeavesOf w d 
 leaves_same w d q b = record { alike = alike_same d _ _ refl; same = refl }
 
 pushed_leaves : (w : World) (s : Step) (q : Query) (d : Path) → IsCanonical w.brought → misses (q.path ++ d) (entries_by w s) → LeavesOf w d q (pushed w s) w.brought
-pushed_leaves w (Step.Data tag path tree) q d c h = parts_leave w (kind (Step.Data tag path tree)).parts w.brought q d c h
-pushed_leaves w (Step.DataMerge tag entries) q d c h = parts_leave w (kind (Step.DataMerge tag entries)).parts w.brought q d c (subst (misses (q.path ++ d)) (sym (append-nil entries)) h)
-pushed_leaves w (Step.Push parts) q d c h = parts_leave w parts w.brought q d c (subst (misses (q.path ++ d)) (entries_flat [] parts) h)
-pushed_leaves w (Step.Listen seat query) q d c h = leaves_same w d q w.brought
-pushed_leaves w (Step.Unlisten seat listener) q d c h = leaves_same w d q w.brought
-pushed_leaves w (Step.Write seat action) q d c h = leaves_same w d q w.brought
-pushed_leaves w (Step.OnDisconnect seat ending) q d c h = leaves_same w d q w.brought
-pushed_leaves w (Step.Accepted id) q d c h = leaves_same w d q w.brought
-pushed_leaves w (Step.Refused id why) q d c h = leaves_same w d q w.brought
-pushed_leaves w (Step.Revoked tag why) q d c h = leaves_same w d q w.brought
-pushed_leaves w Step.Connected q d c h = leaves_same w d q w.brought
-pushed_leaves w Step.Disconnected q d c h = leaves_same w d q w.brought
-pushed_leaves w (Step.CloseSeat seat) q d c h = leaves_same w d q w.brought
+pushed_leaves w s q d c h = at (orderly s).parts
+  where
+    entries : kind s ≡ push_of (kind s).parts → entries_by w s ≡ flat_map (λ (p : Part). p.1) (kind s).parts
+    entries e =
+        (λ i. option_map_or (λ (x : ℕ × Option Reason). entries_settled w x.0) (e i).settled (option_map_or (λ (a : ℕ × Asked). entries_asked a.1) (e i).asked (entries_pushed (e i).parts)))
+        ∙ entries_flat [] (kind s).parts
+
+    at : (kind s).parts ≡ [] ⊎ kind s ≡ push_of (kind s).parts → LeavesOf w d q (pushed w s) w.brought
+    at (inl e) = subst (λ (ps : List Part). LeavesOf w d q (fold (part_pushed w) w.brought ps) w.brought) (sym e) (leaves_same w d q w.brought)
+    at (inr e) = parts_leave w (kind s).parts w.brought q d c (subst (misses (q.path ++ d)) (entries e) h)
 
 -- a step that registers and ends no listener moves none whose path its entries miss
 pub still_unmoved : (w : World) (s : Step) (q : Query) → IsSound w → IsCalled w.brought → IsReached w → refusal w s ≡ None → changes_listeners s ≡ false

@@ -1,26 +1,28 @@
 -- What plain listens brought is said by the pushes and the answers.
-use Rattle.std.proofs.Common.{◌≡◌, ◌≤◌, ℕ, Bool, true, false, ◌&&◌, cond, arith, length, List, [], ◌∷◌, refl, sym, ap, ◌∙◌, slice_index_or, Option, Some, None, is_some}
+use Rattle.std.proofs.Common.{◌≡◌, ◌≤◌, ℕ, Bool, true, false, ◌&&◌, cond, ◌⊎◌, inl, inr, arith, length, List, [], ◌∷◌, refl, sym, ap, subst, ◌∙◌, slice_index_or, Option, Some, None, is_some}
 use mathlib.Core.Bool.{true≢false}
 use Rattle.std.specs.List.{fold, list_all, All, Contains}
-use Rattle.std.specs.Option.{option_map_or}
+use Rattle.std.specs.Option.{option_map, option_map_or}
 use Rattle.std.proofs.lemmas.List.Elements.{All-contains, All-map, All-push}
 use Rattle.rt_tree.specs.PathTree.{strip}
 use Rattle.rt_tree.specs.Assignments.{Assignment}
 use Rattle.rt_query.specs.Queries.{Query, is_filtered}
 use Rattle.rt_cache.specs.Brought.{Brought, push_plain, push, windows_pushed, is_without_window}
+use Rattle.rt_cover.specs.Runs.{Change, Add, Remove, Revoke}
 use Rattle.rt_cover.specs.laws.FormLaws.{form_unfiltered}
 use Rattle.rt_world.specs.declared.error.CoreError.{CoreError}
 use Rattle.rt_world.specs.declared.step.Step.{Step}
 use Rattle.rt_world.specs.World.{World, Listener, pending, listen_of}
-use Rattle.rt_world.specs.steps.Kind.{Part}
-use Rattle.rt_world.specs.steps.Pushing.{is_idle}
-use Rattle.rt_world.specs.After.{listeners_after, part_pushed, brought_after, requests_after, renewed}
+use Rattle.rt_world.specs.steps.Kind.{Kind, Part}
+use Rattle.rt_world.specs.steps.Pushing.{is_idle, push_of}
+use Rattle.rt_world.specs.After.{kind, listeners_after, part_pushed, pushed, brought_after, requests_after, renewed}
 use Rattle.rt_world.specs.Messages.{next}
 use Rattle.rt_world.specs.Refusals.{refusal, is_stale}
 use Rattle.rt_world.specs.Answers.{step, step_by}
-use Rattle.rt_world.specs.Plain.{IsPlainStep, taken_in, brought_by}
+use Rattle.rt_world.specs.Plain.{IsPlainChange, IsPlainStep, taken_in, brought_by}
 use Rattle.rt_world.specs.Sound.{IsSound}
 use Rattle.rt_world.specs.laws.Holds.{IsSteady}
+use Rattle.rt_world.proofs.KindLaws.{first_seen, Listening, still, adding, removing, revoking, orderly, IsNoListen, listen_or_not}
 use Rattle.rt_world.proofs.Listeners.{query-renewed}
 use Rattle.rt_world.proofs.Reaching.{forms_kept, form_of, kept_of, kept_registered}
 use Rattle.rt_world.proofs.ReachedLaws.{push_is_brought, listen_brings_nothing}
@@ -39,19 +41,18 @@ unfiltered_kept w h p f m =
     ap is_filtered (sym x.2) ∙ ap is_filtered (form_unfiltered (x.0).query low)
 
 all_unfiltered : (w : World) (s : Step) → AreUnfiltered w.listeners → IsPlainStep s → AreUnfiltered (listeners_after w s)
-all_unfiltered w (Step.Listen seat query) p u = All-push (λ (l : Listener). is_filtered l.query ≡ false) w.listeners _ p (u.0 w)
-all_unfiltered w (Step.Write seat action) p u = p
-all_unfiltered w (Step.Data tag path tree) p u = p
-all_unfiltered w (Step.DataMerge tag entries) p u = p
-all_unfiltered w (Step.Push parts) p u = p
-all_unfiltered w (Step.Accepted id) p u = p
-all_unfiltered w (Step.Refused id why) p u = p
-all_unfiltered w Step.Connected p u = p
-all_unfiltered w Step.Disconnected p u = p
-all_unfiltered w (Step.OnDisconnect seat ending) p u = p
-all_unfiltered w (Step.Unlisten seat listener) p u = absurd (u.0 w)
-all_unfiltered w (Step.Revoked tag why) p u = absurd (u.0 w)
-all_unfiltered w (Step.CloseSeat seat) p u = absurd (u.0 w)
+all_unfiltered w s p u = at (orderly s).listeners
+  where
+    changed : (c : World → Change) → (kind s).change ≡ Some c → IsPlainChange (Some (c w))
+    changed c e = subst IsPlainChange (ap (option_map (λ (f : World → Change). f w)) e) (u.0 w)
+
+    at : Listening (kind s) → AreUnfiltered (listeners_after w s)
+    at (still h) = subst AreUnfiltered (sym (h.listeners w)) p
+    at (adding h) =
+        subst AreUnfiltered (sym (h.listeners w))
+        (All-push (λ (l : Listener). is_filtered l.query ≡ false) w.listeners (first_seen w h.seat h.query) p (changed (λ v. Add v.next_listener h.query) h.change))
+    at (removing h) = absurd (changed (λ v. Remove (h.numbers v)) h.change)
+    at (revoking h) = absurd (changed (λ v. Revoke h.tag) h.change)
 
 unfiltered_next : (w : World) (s : Step) → AreUnfiltered w.listeners → IsPlainStep s → AreUnfiltered (next w s).listeners
 unfiltered_next w s p u =
@@ -98,24 +99,26 @@ part_taken w (p ∷ r ∷ parts) h pl few fresh = absurd (omega (arith, few))
 -- what a step takes in that is done
 brought_done : (w : World) (s : Step) → IsSteady w → AreUnfiltered w.listeners → IsPlainStep s → refusal w s ≡ None → is_stale w s ≡ false
     → brought_after w s ≡ taken_in w.brought s
-brought_done w (Step.Data tag path tree) h p u free fresh =
-    push_is_brought w (Step.Data tag path tree) h.sound h.called h.reached free refl
-    ∙ part_taken w ((tag, (path, tree) ∷ []) ∷ []) h.sound p u.1 fresh
-brought_done w (Step.DataMerge tag entries) h p u free fresh =
-    push_is_brought w (Step.DataMerge tag entries) h.sound h.called h.reached free refl
-    ∙ part_taken w ((tag, entries) ∷ []) h.sound p u.1 fresh
-brought_done w (Step.Push parts) h p u free fresh =
-    push_is_brought w (Step.Push parts) h.sound h.called h.reached free refl ∙ part_taken w parts h.sound p u.1 fresh
-brought_done w (Step.Listen seat query) h p u free fresh = listen_brings_nothing w seat query h.sound h.called h.reached
-brought_done w (Step.Write seat action) h p u free fresh = push_is_brought w (Step.Write seat action) h.sound h.called h.reached free refl
-brought_done w (Step.OnDisconnect seat ending) h p u free fresh = push_is_brought w (Step.OnDisconnect seat ending) h.sound h.called h.reached free refl
-brought_done w (Step.Accepted id) h p u free fresh = push_is_brought w (Step.Accepted id) h.sound h.called h.reached free refl
-brought_done w (Step.Refused id why) h p u free fresh = push_is_brought w (Step.Refused id why) h.sound h.called h.reached free refl
-brought_done w Step.Connected h p u free fresh = push_is_brought w Step.Connected h.sound h.called h.reached free refl
-brought_done w Step.Disconnected h p u free fresh = push_is_brought w Step.Disconnected h.sound h.called h.reached free refl
-brought_done w (Step.Unlisten seat listener) h p u free fresh = absurd (u.0 w)
-brought_done w (Step.Revoked tag why) h p u free fresh = absurd (u.0 w)
-brought_done w (Step.CloseSeat seat) h p u free fresh = absurd (u.0 w)
+brought_done w s h p u free fresh = elim (listen_or_not s) [
+  | inl x ↦ subst (λ r. brought_after w r ≡ taken_in w.brought r) (sym x.same) (listen_brings_nothing w x.seat x.query h.sound h.called h.reached)
+  | inr x ↦ other x (orderly s).listeners
+]
+  where
+    taken : (kind s).parts ≡ [] ⊎ kind s ≡ push_of (kind s).parts → pushed w s ≡ fold (λ (c : Brought) (p : Part). fold push_plain c p.1) w.brought (kind s).parts
+    taken (inl e) = ap (fold (part_pushed w) w.brought) e ∙ sym (ap (fold (λ (c : Brought) (p : Part). fold push_plain c p.1) w.brought) e)
+    taken (inr e) = part_taken w (kind s).parts h.sound p u.1 (sym (ap (λ (k : Kind). k.is_stale w) e) ∙ fresh)
+
+    changed : (c : World → Change) → (kind s).change ≡ Some c → IsPlainChange (Some (c w))
+    changed c e = subst IsPlainChange (ap (option_map (λ (f : World → Change). f w)) e) (u.0 w)
+
+    other : IsNoListen s → Listening (kind s) → brought_after w s ≡ taken_in w.brought s
+    other x (still l) =
+        push_is_brought w s h.sound h.called h.reached free (ap is_some l.change)
+        ∙ taken (orderly s).parts
+        ∙ ap (λ b. fold (λ (c : Brought) (p : Part). fold push_plain c p.1) b (kind s).parts) (sym (x.forms w.brought))
+    other x (adding l) = absurd (true≢false (sym l.registers ∙ x.registers))
+    other x (removing l) = absurd (changed (λ v. Remove (l.numbers v)) l.change)
+    other x (revoking l) = absurd (changed (λ v. Revoke l.tag) l.change)
 
 brought_at : (w : World) (s : Step) (o : Option CoreError) (b : Bool) → refusal w s ≡ o → is_stale w s ≡ b → IsSteady w → AreUnfiltered w.listeners → IsPlainStep s
     → (step_by o b w s).0.brought ≡ brought_by w.brought s (step_by o b w s).1

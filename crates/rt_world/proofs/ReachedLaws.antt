@@ -1,6 +1,5 @@
 -- What is brought is reached, and stays so: a change of cover that ends no listener leaves it as it is.
 use Rattle.std.proofs.Common.{◌≡◌, true, false, List, [], ◌∷◌, ◌++◌, map, refl, sym, ap, subst, ◌∙◌, slice_index_or, Option, Some, None}
-use mathlib.Core.Bool.{true≢false}
 use Rattle.std.specs.List.{fold, All, Contains}
 use Rattle.std.specs.Option.{option_map_or}
 use Rattle.std.proofs.lemmas.List.Elements.{All-head, All-tail}
@@ -27,11 +26,11 @@ use Rattle.rt_world.specs.laws.Steps.{StaysReached, PushIsBrought, ListenBringsN
 use Rattle.rt_world.specs.laws.Made.{IsPushOn, IsPartOn}
 use Rattle.rt_world.proofs.CalledLaws.{called_pushed}
 use Rattle.rt_world.proofs.HeardLaws.{kept-same}
+use Rattle.rt_world.proofs.KindLaws.{first_seen, is_still}
 use Rattle.rt_world.proofs.Listeners.{registered-renewed}
 use Rattle.rt_world.proofs.Reaching.{forms_kept, kept_of, kept_registered, listening_of, listening_still, reached_still, Contains-more}
-use Rattle.rt_world.proofs.PartLaws.{push_may_push}
+use Rattle.rt_world.proofs.PartLaws.{parts_may_push}
 use Rattle.rt_world.proofs.Putting.{parts_registered}
-use Rattle.rt_world.proofs.ShowLaws.{first_seen}
 
 -- what calls leave is in order
 pub canonical : (b : Brought) → IsCalled b → IsCanonical b
@@ -77,29 +76,7 @@ parts_reached w (p ∷ parts) b h old on =
 
 -- what is brought once the step's push is taken
 pushed_still : (w : World) (s : Step) → IsSound w → IsReached w → refusal w s ≡ None → AreReachedIn w (pushed w s)
-pushed_still w s h r free = at s free
-  where
-    old : AreReachedIn w w.brought
-    old = record { regions = r.regions; windows = r.windows }
-
-    at : (s : Step) → refusal w s ≡ None → AreReachedIn w (pushed w s)
-    at (Step.Data tag path tree) free =
-        let parts : List Part = (tag, (path, tree) ∷ []) ∷ [] in
-        parts_reached w parts w.brought h old (push_may_push w (Step.Data tag path tree) parts refl free)
-    at (Step.DataMerge tag entries) free =
-        let parts : List Part = (tag, entries) ∷ [] in
-        parts_reached w parts w.brought h old (push_may_push w (Step.DataMerge tag entries) parts refl free)
-    at (Step.Push parts) free = parts_reached w parts w.brought h old (push_may_push w (Step.Push parts) parts refl free)
-    at (Step.Listen seat query) free = old
-    at (Step.Unlisten seat listener) free = old
-    at (Step.Write seat action) free = old
-    at (Step.OnDisconnect seat ending) free = old
-    at (Step.Accepted id) free = old
-    at (Step.Refused id why) free = old
-    at (Step.Revoked tag why) free = old
-    at Step.Connected free = old
-    at Step.Disconnected free = old
-    at (Step.CloseSeat seat) free = old
+pushed_still w s h r free = parts_reached w (kind s).parts w.brought h (record { regions = r.regions; windows = r.windows }) (parts_may_push w s free)
 
 -- ---- changes of cover
 
@@ -108,19 +85,7 @@ brings : (w : World) (s : Step) → IsCalled (pushed w s) → AreReachedAfter w 
 brings w s c r = nothing_lost (listening_after w s) (forms_kept (kept_after w s)) (pushed w s) (canonical (pushed w s) c) r.regions r.windows
 
 pub still_listeners : (w : World) (s : Step) → changes_listeners s ≡ false → listeners_after w s ≡ w.listeners
-still_listeners w (Step.Write seat action) e = refl
-still_listeners w (Step.OnDisconnect seat ending) e = refl
-still_listeners w (Step.Data tag path tree) e = refl
-still_listeners w (Step.DataMerge tag entries) e = refl
-still_listeners w (Step.Push parts) e = refl
-still_listeners w (Step.Accepted id) e = refl
-still_listeners w (Step.Refused id why) e = refl
-still_listeners w Step.Connected e = refl
-still_listeners w Step.Disconnected e = refl
-still_listeners w (Step.Listen seat query) e = absurd (true≢false e)
-still_listeners w (Step.Unlisten seat listener) e = absurd (true≢false e)
-still_listeners w (Step.Revoked tag why) e = absurd (true≢false e)
-still_listeners w (Step.CloseSeat seat) e = absurd (true≢false e)
+still_listeners w s e = (is_still s e).listeners w
 
 pub push_is_brought : PushIsBrought
 push_is_brought w s h c r free e =

@@ -19,6 +19,7 @@ use Rattle.rt_world.specs.laws.Listened.{ListenMayAdd, UnlistenMayRemove, CloseS
 use Rattle.rt_world.specs.laws.Refused.{RefusedIsNothing, StaleIsNothing, OtherIsMade, RefusalIsOfKind, OwnIsNotStale, AcceptedIsStale, RefusedIsStale, RevokedIsStale, ListenNeedsTag, UnlistenNeedsTag, CloseSeatNeedsTag, RevokedNeedsTag}
 use Rattle.rt_world.proofs.CoveringLaws.{one_more, revoked_left, unlistened, closed}
 use Rattle.rt_world.proofs.HeardLaws.{map-append}
+use Rattle.rt_world.proofs.KindLaws.{orderly}
 use Rattle.rt_world.proofs.LimitLaws.{allowed}
 use Rattle.rt_world.proofs.Listeners.{or_false_right, has_number, has_number-there, not_bound}
 
@@ -36,36 +37,12 @@ other_is_made w s r f = λ i. step_by (r i) (f i) w s
 -- ---- refusals
 
 pub refusal_is_of_kind : RefusalIsOfKind
-refusal_is_of_kind w (Step.Listen seat query) = refl
-refusal_is_of_kind w (Step.Unlisten seat listener) = refl
-refusal_is_of_kind w (Step.Write seat action) = refl
-refusal_is_of_kind w (Step.OnDisconnect seat ending) = refl
-refusal_is_of_kind w (Step.Data tag path tree) = refl
-refusal_is_of_kind w (Step.DataMerge tag entries) = refl
-refusal_is_of_kind w (Step.Push parts) = refl
-refusal_is_of_kind w (Step.Accepted id) = refl
-refusal_is_of_kind w (Step.Refused id why) = refl
-refusal_is_of_kind w (Step.Revoked tag why) = refl
-refusal_is_of_kind w Step.Connected = refl
-refusal_is_of_kind w Step.Disconnected = refl
-refusal_is_of_kind w (Step.CloseSeat seat) = refl
+refusal_is_of_kind w s = (orderly s).refusals w (needs_tag w s)
 
 -- ---- stale steps
 
 pub own_is_not_stale : OwnIsNotStale
-own_is_not_stale w (Step.Listen seat query) e = refl
-own_is_not_stale w (Step.Unlisten seat listener) e = refl
-own_is_not_stale w (Step.Write seat action) e = refl
-own_is_not_stale w (Step.OnDisconnect seat ending) e = refl
-own_is_not_stale w Step.Connected e = refl
-own_is_not_stale w Step.Disconnected e = refl
-own_is_not_stale w (Step.CloseSeat seat) e = refl
-own_is_not_stale w (Step.Data tag path tree) e = absurd (true≢false e)
-own_is_not_stale w (Step.DataMerge tag entries) e = absurd (true≢false e)
-own_is_not_stale w (Step.Push parts) e = absurd (true≢false e)
-own_is_not_stale w (Step.Accepted id) e = absurd (true≢false e)
-own_is_not_stale w (Step.Refused id why) e = absurd (true≢false e)
-own_is_not_stale w (Step.Revoked tag why) e = absurd (true≢false e)
+own_is_not_stale w s e = (orderly s).own e w
 
 pub accepted_is_stale : AcceptedIsStale
 accepted_is_stale w id = refl

@@ -26,6 +26,7 @@ use Rattle.rt_world.specs.Sound.{Rises, IsSound}
 use Rattle.rt_cover.specs.laws.CoverLaws.{Contains-from_filter}
 use Rattle.rt_query.specs.laws.Select.{select-distinct}
 use Rattle.rt_view.proofs.TurnLaws.{turns, turns_not, changes-same}
+use Rattle.rt_world.proofs.KindLaws.{first_seen, Listening, still, adding, removing, revoking, orderly}
 use Rattle.rt_world.proofs.Listeners.{same_number, or_false_left, or_false_right, has_number, has_number-there, not_above, not_bound, view_before-there, view_before-none, Rises-push, Rises-renewed, below-push, primed_view}
 
 -- ---- listeners after a step
@@ -40,10 +41,6 @@ pub record IsLeft (w : World) (s : Step) : Type 0 where
   pub left : listeners_after w s ≡ filter test w.listeners
   pub given : listener_given w s ≡ None
 
--- a new listener
-abbrev pub first_seen : World → ℕ → Query → Listener
-first_seen w seat query = record { number = w.next_listener; seat = seat; query = query; is_primed = false; view = None }
-
 -- one listener more
 pub record IsMore (w : World) (s : Step) : Type 0 where
   pub seat : ℕ
@@ -51,24 +48,18 @@ pub record IsMore (w : World) (s : Step) : Type 0 where
   pub more : listeners_after w s ≡ w.listeners ++ first_seen w seat query ∷ []
   pub given : listener_given w s ≡ Some w.next_listener
 
-all_left : (w : World) (s : Step) → listeners_after w s ≡ w.listeners → listener_given w s ≡ None → IsLeft w s ⊎ IsMore w s
-all_left w s e g = inl (record { test = λ _. true; left = e ∙ sym (filter_true w.listeners); given = g })
-
 -- a step registers one listener, or ends some or none
 pub left_or_more : (w : World) (s : Step) → IsLeft w s ⊎ IsMore w s
-left_or_more w (Step.Listen seat query) = inr (record { seat = seat; query = query; more = refl; given = refl })
-left_or_more w (Step.Unlisten seat listener) = inl (record { test = λ l. not (l.number == listener); left = refl; given = refl })
-left_or_more w (Step.Revoked tag why) = inl (record { test = λ l. not (is_cancelled w tag l); left = refl; given = refl })
-left_or_more w (Step.CloseSeat seat) = inl (record { test = λ l. not (l.seat == seat); left = refl; given = refl })
-left_or_more w (Step.Write seat action) = all_left w (Step.Write seat action) refl refl
-left_or_more w (Step.OnDisconnect seat ending) = all_left w (Step.OnDisconnect seat ending) refl refl
-left_or_more w (Step.Data tag path tree) = all_left w (Step.Data tag path tree) refl refl
-left_or_more w (Step.DataMerge tag entries) = all_left w (Step.DataMerge tag entries) refl refl
-left_or_more w (Step.Push parts) = all_left w (Step.Push parts) refl refl
-left_or_more w (Step.Accepted id) = all_left w (Step.Accepted id) refl refl
-left_or_more w (Step.Refused id why) = all_left w (Step.Refused id why) refl refl
-left_or_more w Step.Connected = all_left w Step.Connected refl refl
-left_or_more w Step.Disconnected = all_left w Step.Disconnected refl refl
+left_or_more w s = at (orderly s).listeners
+  where
+    given : (b : Bool) → (kind s).registers ≡ b → listener_given w s ≡ cond b (Some w.next_listener) None
+    given b e = ap (λ c. cond c (Some w.next_listener) None) e
+
+    at : Listening (kind s) → IsLeft w s ⊎ IsMore w s
+    at (still h) = inl (record { test = λ _. true; left = h.listeners w ∙ sym (filter_true w.listeners); given = given false h.registers })
+    at (adding h) = inr (record { seat = h.seat; query = h.query; more = h.listeners w; given = given true h.registers })
+    at (removing h) = inl (record { test = h.stays w; left = h.listeners w; given = given false h.registers })
+    at (revoking h) = inl (record { test = λ l. not (is_cancelled w h.tag l); left = h.listeners w; given = given false h.registers })
 
 Rises-filter : (p : Listener → Bool) (ls : List Listener) → Rises ls → Rises (filter p ls)
 Rises-filter p [] h = tt
@@ -154,19 +145,11 @@ told-cancelled n why (l ∷ ls) = told-cancelled n why ls
 
 told-cancelled_notes : (n : ℕ) (w : World) (s : Step) → told n (cancelled_notes w s) ≡ []
 unfolding told
-told-cancelled_notes n w (Step.Revoked tag why) = told-cancelled n why (filter (is_cancelled w tag) w.listeners)
-told-cancelled_notes n w (Step.Listen seat query) = refl
-told-cancelled_notes n w (Step.Unlisten seat listener) = refl
-told-cancelled_notes n w (Step.Write seat action) = refl
-told-cancelled_notes n w (Step.OnDisconnect seat ending) = refl
-told-cancelled_notes n w (Step.Data tag path tree) = refl
-told-cancelled_notes n w (Step.DataMerge tag entries) = refl
-told-cancelled_notes n w (Step.Push parts) = refl
-told-cancelled_notes n w (Step.Accepted id) = refl
-told-cancelled_notes n w (Step.Refused id why) = refl
-told-cancelled_notes n w Step.Connected = refl
-told-cancelled_notes n w Step.Disconnected = refl
-told-cancelled_notes n w (Step.CloseSeat seat) = refl
+told-cancelled_notes n w s =
+    elim (kind s).revoked as (λ o. told n (option_map_or (λ (r : ℕ × Reason). map (λ (l : Listener). record { seat = l.seat; body = Cancelled l.number r.1 }) (filter (is_cancelled w r.0) w.listeners)) o []) ≡ []) [
+      | Some r ↦ told-cancelled n r.1 (filter (is_cancelled w r.0) w.listeners)
+      | None ↦ refl
+    ]
 
 -- only batches tell of changes
 told-notes : (n : ℕ) (w : World) (s : Step) → told n ((done_report w s).notes) ≡ told n (batch_notes w s)

@@ -1,7 +1,7 @@
 -- Each step keeps a world sound.
-use Rattle.std.proofs.Common.{◌≡◌, ℕ, zero, suc, ◌+◌, ◌<◌, Bool, true, false, cond, not, ◌==◌, List, [], ◌∷◌, length, refl, sym, subst, arith, slice_index_or, Option, Some, None}
+use Rattle.std.proofs.Common.{◌≡◌, ℕ, zero, suc, ◌+◌, ◌<◌, Bool, true, false, cond, not, ◌==◌, List, [], ◌∷◌, map, length, refl, sym, subst, arith, slice_index_or, Option, Some, None}
 use Rattle.std.specs.List.{filter, All, AllPairs}
-use Rattle.std.specs.Option.{option_eq}
+use Rattle.std.specs.Option.{option_eq, option_map}
 use Rattle.std.proofs.lemmas.List.Elements.{All-filter, All-map, All-push, All-weaker, All-contains}
 use Rattle.std.proofs.lemmas.List.Kept.{AllPairs-cons, AllPairs-filter}
 use Rattle.std.proofs.lemmas.Bool.{le-ltb}
@@ -19,12 +19,13 @@ use Rattle.rt_world.specs.declared.step.Request.{Request}
 use Rattle.rt_world.specs.declared.step.Step.{Step}
 use Rattle.rt_world.specs.World.{World, Listener, empty_world, registered, pending}
 use Rattle.rt_world.specs.steps.Asking.{requests_with}
-use Rattle.rt_world.specs.After.{requests_after, listeners_after, brought_after, renewed_after, listener_given, request_given, counted, started_by}
+use Rattle.rt_world.specs.After.{kind, requests_after, listeners_after, brought_after, renewed_after, listener_given, request_given, counted, started_by}
 use Rattle.rt_world.specs.steps.Closing.{unseated}
 use Rattle.rt_world.specs.Messages.{next}
 use Rattle.rt_world.specs.Refusals.{refusal, is_stale}
 use Rattle.rt_world.specs.Answers.{step, step_by, world_after}
 use Rattle.rt_world.specs.Sound.{Rises, cover_of, IsSound}
+use Rattle.rt_world.proofs.KindLaws.{Requesting, keeping, unseating, asking, settling, orderly}
 use Rattle.rt_world.proofs.Listeners.{below-renewed, registered-renewed}
 use Rattle.rt_world.proofs.ShowLaws.{after_rises, after_below, renewed_rises, done_up_to_date, done_primed}
 
@@ -75,7 +76,7 @@ id-unseated : (seat : ℕ) (r : Request) → (unseated seat r).id ≡ r.id
 id-unseated seat r = elim (option_eq (λ a b. a == b) r.seat (Some seat)) as (λ b. (cond b (record r { seat = None }) r).id ≡ r.id) [ true ↦ refl | false ↦ refl ]
 
 requests_order : (w : World) (s : Step) → IsSound w → InOrder (requests_after w s) × AreBelow (counted w.next_request (request_given w s)) (requests_after w s)
-requests_order w s h = at s
+requests_order w s h = at (orderly s).requests
   where
     less : (p : Request → Bool) → InOrder (filter p w.requests) × AreBelow w.next_request (filter p w.requests)
     less p = (AllPairs-filter (λ (r s : Request). r.id < s.id) p w.requests h.requests, All-filter p (λ (r : Request). r.id < w.next_request) w.requests h.unsettled)
@@ -93,27 +94,27 @@ requests_order w s h = at s
         new r s low zero lt e = subst (λ (x : Request). r.id < x.id) e low
         new r s low (suc k) lt e = absurd (omega arith)
 
-    same : (n : ℕ) → n ≡ w.next_request → InOrder w.requests × AreBelow n w.requests
-    same n e = (h.requests, subst (λ n. AreBelow n w.requests) (sym e) h.unsettled)
-
-    at : (s : Step) → InOrder (requests_after w s) × AreBelow (counted w.next_request (request_given w s)) (requests_after w s)
-    at (Step.Write seat action) = more seat _
-    at (Step.OnDisconnect seat ending) = more seat _
-    at (Step.Accepted id) = less (λ r. not (r.id == id))
-    at (Step.Refused id why) = less (λ r. not (r.id == id))
-    at (Step.CloseSeat seat) = (
+    unseated_all : (seat : ℕ) → InOrder (map (unseated seat) w.requests) × AreBelow w.next_request (map (unseated seat) w.requests)
+    unseated_all seat = (
       AllPairs-map (unseated seat) (λ (r s : Request). r.id < s.id) w.requests
           (λ i j d lt within. let low = h.requests i j d lt within in omega (arith, low, id-unseated seat (slice_index_or w.requests i d), id-unseated seat (slice_index_or w.requests j d))),
       All-map (λ (r : Request). r.id < w.next_request) (unseated seat) w.requests (λ k d lt. omega (arith, id-unseated seat (slice_index_or w.requests k d), h.unsettled k d lt)),
     )
-    at (Step.Listen seat query) = same w.next_request refl
-    at (Step.Unlisten seat listener) = same w.next_request refl
-    at (Step.Data tag path tree) = same w.next_request refl
-    at (Step.DataMerge tag entries) = same w.next_request refl
-    at (Step.Push parts) = same w.next_request refl
-    at (Step.Revoked tag why) = same w.next_request refl
-    at Step.Connected = same w.next_request refl
-    at Step.Disconnected = same w.next_request refl
+
+    -- the step leaves these requests, and that is what it asks for
+    by : (rs : List Request) (asked : Option (ℕ × Asked)) → requests_after w s ≡ rs → (kind s).asked ≡ asked
+        → InOrder rs × AreBelow (counted w.next_request (option_map (λ _. w.next_request) asked)) rs
+        → InOrder (requests_after w s) × AreBelow (counted w.next_request (request_given w s)) (requests_after w s)
+    by rs asked e f x = (
+      subst InOrder (sym e) x.0,
+      subst (λ z. z) (λ i. AreBelow (counted w.next_request (option_map (λ _. w.next_request) (sym f i))) (sym e i)) x.1,
+    )
+
+    at : Requesting (kind s) → InOrder (requests_after w s) × AreBelow (counted w.next_request (request_given w s)) (requests_after w s)
+    at (keeping settled asked requests) = by w.requests None (requests w) asked (h.requests, h.unsettled)
+    at (unseating seat settled asked requests) = by (map (unseated seat) w.requests) None (requests w) asked (unseated_all seat)
+    at (asking a settled asked requests room) = by (requests_with w a) (Some a) (requests w) asked (more a.0 a.1)
+    at (settling d settled asked requests) = by (filter (λ r. not (r.id == d.0)) w.requests) None (requests w) asked (less (λ r. not (r.id == d.0)))
 
 -- ---- worlds
 

@@ -1,7 +1,7 @@
 -- A change of cover changes no view of a listener that stays.
 use Rattle.std.proofs.Common.{◌≡◌, ℕ, zero, suc, ◌<◌, Bool, true, false, cond, not, ◌&&◌, ◌||◌, inl, inr, List, [], ◌∷◌, ◌++◌, refl, sym, ap, subst, ◌∙◌, arith, slice_index_or, Option, Some, None, is_some}
 use mathlib.Core.Bool.{true≢false}
-use Rattle.std.specs.List.{Contains}
+use Rattle.std.specs.List.{fold, Contains}
 use Rattle.std.specs.Option.{option_map, option_map_or, option_eq}
 use Rattle.std.proofs.lemmas.List.Elements.{All-contains, Contains-append_cases}
 use Rattle.rt_tree.specs.PathTree.{Key, Path, PathTree, null, is_null, leaf_of, non_null, child, with_children}
@@ -28,28 +28,30 @@ use Rattle.rt_cover.specs.laws.CoverLaws.{Contains-from_filter}
 use Rattle.rt_cover.specs.laws.FormLaws.{form_filtered, form_unfiltered}
 use Rattle.rt_cover.specs.laws.KeepLaws.{Contains-from_map, length_of_map, form_is_form}
 use Rattle.rt_cover.specs.laws.Paths.{is_at_or_above-same}
+use Rattle.rt_wire.specs.declared.request.Asked.{Asked}
 use Rattle.rt_world.specs.declared.error.CoreError.{CoreError}
 use Rattle.rt_world.specs.declared.step.Step.{Step}
 use Rattle.rt_world.specs.Views.{is_known, base_tree, is_base_whole, is_child_known, seen_over, view_of}
-use Rattle.rt_world.specs.World.{World, Listener, registered, pending}
-use Rattle.rt_world.specs.After.{listeners_after, requests_after, forms_after, listening_after, kept_after, pushed, brought_after, renewed, renewed_after}
+use Rattle.rt_world.specs.World.{Reason, World, Listener, registered, pending}
+use Rattle.rt_world.specs.After.{listeners_after, requests_after, forms_after, listening_after, kept_after, part_pushed, pushed, brought_after, renewed, renewed_after}
 use Rattle.rt_world.specs.Messages.{next}
 use Rattle.rt_world.specs.Refusals.{refusal, is_stale}
 use Rattle.rt_world.specs.Answers.{step_by}
 use Rattle.rt_world.specs.Headline.{view_by}
-use Rattle.rt_world.specs.Touched.{IsInBoth}
+use Rattle.rt_world.specs.Touched.{entries_settled, entries_asked, entries_pushed, IsInBoth}
 use Rattle.rt_world.specs.Called.{IsCalled}
 use Rattle.rt_world.specs.Sound.{IsSound}
 use Rattle.rt_world.specs.laws.Steps.{ChangesHaveNoEntries}
 use Rattle.rt_world.specs.laws.Holds.{IsSteady}
 use Rattle.rt_world.specs.laws.World.{changes_listeners, StayUnlessMoved, MovedStayPrimed, CoverChangesFewViews}
 use Rattle.rt_world.proofs.CalledLaws.{kept_apart}
+use Rattle.rt_world.proofs.KindLaws.{first_seen, orderly}
 use Rattle.rt_world.proofs.Listeners.{number-renewed, primed_view}
 use Rattle.rt_world.proofs.Numbers.{one_number}
 use Rattle.rt_world.proofs.Reaching.{forms_kept, form_stays, listening_of, reached_form}
 use Rattle.rt_world.proofs.RecoverLaws.{region_after}
-use Rattle.rt_world.proofs.ShowLaws.{left_or_more, first_seen}
-use Rattle.rt_world.proofs.WrittenLaws.{pending-unseated}
+use Rattle.rt_world.proofs.ShowLaws.{left_or_more}
+use Rattle.rt_world.proofs.WrittenLaws.{writes_stay}
 
 -- ---- views of trees with the same children
 
@@ -180,35 +182,15 @@ pub record ChangesCoverAlone (w : World) (s : Step) : Type 0 where
   pub writes : pending (requests_after w s) ≡ pending w.requests
 
 pub cover_alone : (w : World) (s : Step) → changes_listeners s ≡ true → ChangesCoverAlone w s
-cover_alone w (Step.Listen seat query) e = record { taken = refl; writes = refl }
-cover_alone w (Step.Unlisten seat listener) e = record { taken = refl; writes = refl }
-cover_alone w (Step.Revoked tag why) e = record { taken = refl; writes = refl }
-cover_alone w (Step.CloseSeat seat) e = record { taken = refl; writes = pending-unseated seat w.requests }
-cover_alone w (Step.Write seat action) e = absurd (true≢false (sym e))
-cover_alone w (Step.OnDisconnect seat ending) e = absurd (true≢false (sym e))
-cover_alone w (Step.Data tag path tree) e = absurd (true≢false (sym e))
-cover_alone w (Step.DataMerge tag entries) e = absurd (true≢false (sym e))
-cover_alone w (Step.Push parts) e = absurd (true≢false (sym e))
-cover_alone w (Step.Accepted id) e = absurd (true≢false (sym e))
-cover_alone w (Step.Refused id why) e = absurd (true≢false (sym e))
-cover_alone w Step.Connected e = absurd (true≢false (sym e))
-cover_alone w Step.Disconnected e = absurd (true≢false (sym e))
+cover_alone w s e =
+    let a = (orderly s).alone e in
+    record { taken = ap (fold (part_pushed w) w.brought) a.parts; writes = writes_stay w s a.settled a.asked }
 
 -- and it has no entries
 pub changes_have_no_entries : ChangesHaveNoEntries
-changes_have_no_entries w (Step.Listen seat query) e = refl
-changes_have_no_entries w (Step.Unlisten seat listener) e = refl
-changes_have_no_entries w (Step.Revoked tag why) e = refl
-changes_have_no_entries w (Step.CloseSeat seat) e = refl
-changes_have_no_entries w (Step.Write seat action) e = absurd (true≢false (sym e))
-changes_have_no_entries w (Step.OnDisconnect seat ending) e = absurd (true≢false (sym e))
-changes_have_no_entries w (Step.Data tag path tree) e = absurd (true≢false (sym e))
-changes_have_no_entries w (Step.DataMerge tag entries) e = absurd (true≢false (sym e))
-changes_have_no_entries w (Step.Push parts) e = absurd (true≢false (sym e))
-changes_have_no_entries w (Step.Accepted id) e = absurd (true≢false (sym e))
-changes_have_no_entries w (Step.Refused id why) e = absurd (true≢false (sym e))
-changes_have_no_entries w Step.Connected e = absurd (true≢false (sym e))
-changes_have_no_entries w Step.Disconnected e = absurd (true≢false (sym e))
+changes_have_no_entries w s e =
+    let a = (orderly s).alone e in
+    λ i. option_map_or (λ (d : ℕ × Option Reason). entries_settled w d.0) (a.settled i) (option_map_or (λ (x : ℕ × Asked). entries_asked x.1) (a.asked i) (entries_pushed (a.parts i)))
 
 pub stays_same : (w : World) (s : Step) → IsSound w → IsCalled w.brought → changes_listeners s ≡ true → (l : Listener) → Contains w.listeners l → Contains (listeners_after w s) l
     → is_moved w.brought (brought_after w s) l.query ≡ false → renewed (brought_after w s) (pending (requests_after w s)) l ≡ l

@@ -2,7 +2,7 @@
 use Rattle.std.proofs.Common.{◌≡◌, ℕ, Bool, true, false, cond, not, ◌||◌, ◌==◌, List, [], ◌∷◌, ◌++◌, refl, sym, ap, subst, ◌∙◌, append-nil, Option, Some, None, ◌<◌, arith}
 use Rattle.std.specs.Prelude.{unwrap_or}
 use Rattle.std.specs.List.{filter, find, cons_option, fold, list_any, All, AllPairs}
-use Rattle.std.specs.Option.{option_map}
+use Rattle.std.specs.Option.{option_map, option_map_or}
 use Rattle.std.proofs.lemmas.List.Elements.{All-head, All-tail, filter-append, filter_map-append}
 use Rattle.std.proofs.lemmas.List.Folds.{list_any-append}
 use Rattle.std.proofs.lemmas.Grind.{flat_map-append}
@@ -15,10 +15,11 @@ use Rattle.rt_wire.specs.declared.request.Asked.{Asked}
 use Rattle.rt_wire.specs.declared.request.Asked.TheVariants.{Now, AtDisconnect}
 use Rattle.rt_world.specs.declared.step.Request.{Request}
 use Rattle.rt_world.specs.declared.step.Step.{Step}
-use Rattle.rt_world.specs.World.{World, entries_of, pending, write_asked}
-use Rattle.rt_world.specs.After.{requests_after}
-use Rattle.rt_world.specs.Touched.{entries_by}
+use Rattle.rt_world.specs.World.{Reason, World, entries_of, pending, write_asked}
+use Rattle.rt_world.specs.After.{kind, requests_after}
+use Rattle.rt_world.specs.Touched.{entries_settled, entries_asked, entries_pushed, entries_by}
 use Rattle.rt_cover.specs.laws.Pairs.{AllPairs-first, AllPairs-rest}
+use Rattle.rt_world.proofs.KindLaws.{Requesting, keeping, unseating, asking, settling, orderly}
 use Rattle.rt_world.proofs.Listeners.{same_number, other_number, or_false_left, or_false_right}
 use Rattle.rt_world.specs.Sound.{IsSound}
 use Rattle.rt_world.proofs.WrittenLaws.{pending-unseated}
@@ -154,22 +155,32 @@ module _ (id : ℕ) where
             | false ↦ λ e. rest
           ] refl
 
+-- of one more request
+asked_misses : (c : Path) (n : ℕ) (seat : Option ℕ) (asked : Asked) → misses c (entries_asked asked) → misses c (assignments (pending (record { id = n; seat = seat; asked = asked } ∷ [])))
+asked_misses c n seat (Now action) h = subst (misses c) (sym (append-nil (entries_of action))) h
+asked_misses c n seat (AtDisconnect ending) h = refl
+
 -- the pending writes bear the same on a path that no entry of the step bears on
 writes_alike : (w : World) (s : Step) (c : Path) → IsSound w → misses c (entries_by w s) → touching c (assignments (pending (requests_after w s))) ≡ touching c (assignments (pending w.requests))
-writes_alike w (Step.Write seat action) c sound h =
-    more c w.requests (record { id = w.next_request; seat = Some seat; asked = Now action }) (subst (misses c) (sym (append-nil (entries_of action))) h)
-writes_alike w (Step.OnDisconnect seat ending) c sound h = more c w.requests (record { id = w.next_request; seat = Some seat; asked = AtDisconnect ending }) refl
-writes_alike w (Step.Accepted id) c sound h = less c id w.requests (subst (misses c) (sym (found_all id w.requests sound.requests)) h)
-writes_alike w (Step.Refused id why) c sound h = less c id w.requests (subst (misses c) (sym (found_all id w.requests sound.requests)) h)
-writes_alike w (Step.CloseSeat seat) c sound h = ap (λ ws. touching c (assignments ws)) (pending-unseated seat w.requests)
-writes_alike w (Step.Listen seat query) c sound h = refl
-writes_alike w (Step.Unlisten seat listener) c sound h = refl
-writes_alike w (Step.Data tag path tree) c sound h = refl
-writes_alike w (Step.DataMerge tag entries) c sound h = refl
-writes_alike w (Step.Push parts) c sound h = refl
-writes_alike w (Step.Revoked tag why) c sound h = refl
-writes_alike w Step.Connected c sound h = refl
-writes_alike w Step.Disconnected c sound h = refl
+writes_alike w s c sound h = at (orderly s).requests
+  where
+    bear : List Request → List Assignment
+    bear rs = touching c (assignments (pending rs))
+
+    entries : Option (ℕ × Option Reason) → Option (ℕ × Asked) → List Assignment
+    entries settled asked =
+        option_map_or (λ (d : ℕ × Option Reason). entries_settled w d.0) settled (option_map_or (λ (a : ℕ × Asked). entries_asked a.1) asked (entries_pushed (kind s).parts))
+
+    at : Requesting (kind s) → bear (requests_after w s) ≡ bear w.requests
+    at (keeping settled asked requests) = ap bear (requests w)
+    at (unseating seat settled asked requests) = ap bear (requests w) ∙ ap (λ ws. touching c (assignments ws)) (pending-unseated seat w.requests)
+    at (asking a settled asked requests room) =
+        let entries_are : entries (kind s).settled (kind s).asked ≡ entries_asked a.1 = λ i. entries (settled i) (asked i) in
+        ap bear (requests w)
+        ∙ more c w.requests (record { id = w.next_request; seat = Some a.0; asked = a.1 }) (asked_misses c w.next_request (Some a.0) a.1 (subst (misses c) entries_are h))
+    at (settling d settled asked requests) =
+        let entries_are : entries (kind s).settled (kind s).asked ≡ entries_settled w d.0 = λ i. entries (settled i) (kind s).asked in
+        ap bear (requests w) ∙ less c d.0 w.requests (subst (misses c) (entries_are ∙ sym (found_all d.0 w.requests sound.requests)) h)
 
 pub writes_same : (w : World) (s : Step) (c : Path) → IsSound w → misses c (entries_by w s) → SameAt c (pending (requests_after w s)) (pending w.requests)
 writes_same w s c sound h = same_at c (pending (requests_after w s)) (pending w.requests) (writes_alike w s c sound h)
