@@ -29,7 +29,7 @@ use Rattle.rt_query.specs.QueryOrder.{query_cmp}
 use Rattle.rt_cache.specs.Brought.{Window, Brought, nothing_brought, with_form, is_supplied, may_put, region_part, region_put, window_of, window_pushed, windows_pushed, knows, push_plain, push}
 use Rattle.rt_cache.specs.Canonical.{IsCanonical, FitsLevels, Belongs}
 use Rattle.rt_cache.specs.Recover.{reaches, regions_kept, in_query_order, is_among, cut, is_lost, heirs, handed_on, recover}
-use Rattle.rt_cache.specs.declared.run.Call.TheVariants.{Put, Recover}
+use Rattle.rt_cache.specs.declared.run.BroughtCall.TheVariants.{Put, Recover}
 use Rattle.rt_cache.specs.declared.regions.Region.{Region}
 use Rattle.rt_cache.specs.declared.windows.Window as inside
 use Rattle.rt_cache.specs.inside.Held.{held, entries_of, pairs_of, pushed_windows}

@@ -27,8 +27,8 @@ use Rattle.rt_cache.specs.laws.Runs.{pushed, is_known}
 use Rattle.rt_cache.specs.laws.Windows.{Held, with_forms, registered_by, may_show, shown_from, seen, loses, inherits, children_of, begun, ends, with_own, with_all_own, with_pushed, held_after, held_from, held_by, lets_be, BaseIsSeen, SourceIsHolder, HeldSinceBegun, HeldIsBegun, HandedOnIsSeen, SuppliedHasTheSame}
 use Rattle.rt_cache.specs.inside.Held.{pushed_windows}
 use Rattle.rt_cache.specs.inside.Sources.{source_among}
-use Rattle.rt_cache.specs.declared.run.Call.{Call}
-use Rattle.rt_cache.specs.declared.run.Call.TheVariants.{Put, Recover}
+use Rattle.rt_cache.specs.declared.run.BroughtCall.{BroughtCall}
+use Rattle.rt_cache.specs.declared.run.BroughtCall.TheVariants.{Put, Recover}
 use Rattle.rt_cache.proofs.Among.{any_with, any_passing, any_agreeing, among, of_among}
 use Rattle.rt_cache.proofs.Belonging.{have_forms, nothing_belongs, push_registered, push_belongs, recover_belongs}
 use Rattle.rt_cache.proofs.Changes.{recover_stays}
@@ -217,7 +217,7 @@ windows_after q r b a f = ap (λ (x : Brought). window_of x.windows q) (sym (pus
 
 -- ---- what it holds behind a push
 
-module _ (before : List Call) (b : Brought) (q r : Query) (p : Path) (u : PathTree) (f : is_filtered q ≡ true) where
+module _ (before : List BroughtCall) (b : Brought) (q r : Query) (p : Path) (u : PathTree) (f : is_filtered q ≡ true) where
   -- what the push begins, what it ends, and what is put below
   by : Bool → Bool → Bool → Option Base
   by mine end same =
@@ -308,34 +308,34 @@ module _ (before : List Call) (b : Brought) (q r : Query) (p : Path) (u : PathTr
 -- ---- calls
 
 -- each call is allowed by itself
-pub allowed_each : (b : Brought) (calls : List Call) → AreAllowed b calls → All IsAllowed calls
+pub allowed_each : (b : Brought) (calls : List BroughtCall) → AreAllowed b calls → All IsAllowed calls
 allowed_each b [] ok = All-nil IsAllowed
 allowed_each b (c ∷ cs) ok = All-cons IsAllowed c cs ok.0 (allowed_each (after b c) cs ok.2)
 
-after_append : (xs ys : List Call) (b : Brought) → after_all b (xs ++ ys) ≡ after_all (after_all b xs) ys
+after_append : (xs ys : List BroughtCall) (b : Brought) → after_all b (xs ++ ys) ≡ after_all (after_all b xs) ys
 after_append [] ys b = refl
 after_append (x ∷ xs) ys b = after_append xs ys (after b x)
 
-allowed_front : (b : Brought) (xs ys : List Call) → AreAllowed b (xs ++ ys) → AreAllowed b xs
+allowed_front : (b : Brought) (xs ys : List BroughtCall) → AreAllowed b (xs ++ ys) → AreAllowed b xs
 allowed_front b [] ys ok = tt
 allowed_front b (x ∷ xs) ys ok = (ok.0, ok.1, allowed_front (after b x) xs ys ok.2)
 
 -- what holds behind any calls
-holds_all : (calls : List Call) (b : Brought) → AreAllowed b calls → IsCanonical b → Belongs b → IsCanonical (after_all b calls) × Belongs (after_all b calls)
+holds_all : (calls : List BroughtCall) (b : Brought) → AreAllowed b calls → IsCanonical b → Belongs b → IsCanonical (after_all b calls) × Belongs (after_all b calls)
 holds_all [] b ok c h = (c, h)
 holds_all (Put r p u ∷ cs) b ok c h = holds_all cs (push r b (p, u)) ok.2 (push_stays r b (p, u) c) (push_belongs r b (p, u) c ok.1 (ok.0).0 h)
 holds_all (Recover registered kept ∷ cs) b ok c h = holds_all cs (recover registered kept b) ok.2 (recover_stays registered kept b ok.0 c) (recover_belongs registered kept b ok.1 h)
 
-pub calls_hold : (calls : List Call) → AreAllowed nothing_brought calls → IsCanonical (after_all nothing_brought calls) × Belongs (after_all nothing_brought calls)
+pub calls_hold : (calls : List BroughtCall) → AreAllowed nothing_brought calls → IsCanonical (after_all nothing_brought calls) × Belongs (after_all nothing_brought calls)
 calls_hold calls ok = holds_all calls nothing_brought ok nothing_canonical nothing_belongs
 
 -- ---- what is seen
 
-known_is : (q : Query) (calls : List Call)
+known_is : (q : Query) (calls : List BroughtCall)
     → any_above q.path (after_all nothing_brought calls).regions ≡ is_known calls q.path
 known_is q calls = run_known q.path calls nothing_brought
 
-registered_all : (calls : List Call) (b : Brought) → (after_all b calls).registered ≡ fold with_forms b.registered calls
+registered_all : (calls : List BroughtCall) (b : Brought) → (after_all b calls).registered ≡ fold with_forms b.registered calls
 registered_all [] b = refl
 registered_all (Put r p u ∷ cs) b = registered_all cs (push r b (p, u)) ∙ ap (λ fs. fold with_forms fs cs) (push_registered r b (p, u))
 registered_all (Recover registered kept ∷ cs) b = registered_all cs (recover registered kept b)
@@ -347,7 +347,7 @@ mapped_then : (b : Brought) (o : Option Query) → option_map of_window (option_
 mapped_then b None = refl
 mapped_then b (Some f) = refl
 
-seen_is : (calls : List Call) (q : Query) → All IsAllowed calls
+seen_is : (calls : List BroughtCall) (q : Query) → All IsAllowed calls
     → base (after_all nothing_brought calls) q ≡ seen calls (own (after_all nothing_brought calls)) q
 seen_is calls q ok = at (is_known calls q.path) refl
   where
@@ -411,7 +411,7 @@ recovered q registered kept b =
     ∙ (λ i. option_or (find-for_each (λ x. window_left (base b x)) q (heirs registered b left) i)
     (find-where_key query_cmp (is_among registered) q (λ x t. ap (is_among registered) (sym (exact_queries q x t))) b.windows i))
 
-module _ (before : List Call) (registered kept : List Query) (ok : All IsAllowed before) where
+module _ (before : List BroughtCall) (registered kept : List Query) (ok : All IsAllowed before) where
   then_brought : Brought
   then_brought = after_all nothing_brought before
 
@@ -494,7 +494,7 @@ module _ (before : List Call) (registered kept : List Query) (ok : All IsAllowed
 -- ---- any call
 
 -- what inherits is filtered
-inherits_filtered : (before : List Call) (held : Held) (registered kept : List Query) (q : Query)
+inherits_filtered : (before : List BroughtCall) (held : Held) (registered kept : List Query) (q : Query)
     → inherits before held registered kept q ≡ true → is_filtered q ≡ true
 inherits_filtered before held registered kept q e =
     both_first (is_filtered q) _ (both_first _ (not (is_known before q.path && reaches kept q.path))
@@ -509,7 +509,7 @@ none_else true = refl
 none_else false = refl
 
 -- a plain query holds nothing still
-plain_told : (before : List Call) (held : Held) (c : Call) (q : Query) → is_filtered q ≡ false → held q ≡ None
+plain_told : (before : List BroughtCall) (held : Held) (c : BroughtCall) (q : Query) → is_filtered q ≡ false → held q ≡ None
     → held_after before held c q ≡ None
 plain_told before held (Put r p u) q e n =
     (λ i. option_or (cond (e i && query_eq r q && path_eq p q.path) (Some (record { tree = children_alone u; whole = false })) None)
@@ -522,7 +522,7 @@ plain_told before held (Recover registered kept) q e n =
     (cond (ends q (Recover registered kept)) None (option_map (λ (x : Base). record x { tree = x.tree }) (n i))))
     ∙ none_else (ends q (Recover registered kept))
 
-held_step : (before : List Call) (c : Call) (q : Query) → AreAllowed nothing_brought (before ++ c ∷ [])
+held_step : (before : List BroughtCall) (c : BroughtCall) (q : Query) → AreAllowed nothing_brought (before ++ c ∷ [])
     → own (after (after_all nothing_brought before) c) q ≡ held_after before (own (after_all nothing_brought before)) c q
 held_step before c q ok = at (is_filtered q) refl
   where
@@ -538,7 +538,7 @@ held_step before c q ok = at (is_filtered q) refl
     then : IsCanonical (after b c)
     then = subst IsCanonical (after_append before (c ∷ []) nothing_brought) (calls_hold (before ++ c ∷ []) ok).0
 
-    each : (d : Call) → is_filtered q ≡ true → own (after b d) q ≡ held_after before (own b) d q
+    each : (d : BroughtCall) → is_filtered q ≡ true → own (after b d) q ≡ held_after before (own b) d q
     each (Put r p u) f = held_put before b q r p u f holds.1
     each (Recover registered kept) f = held_recover before registered kept (allowed_each nothing_brought before front) q
 
@@ -548,7 +548,7 @@ held_step before c q ok = at (is_filtered q) refl
         ap (option_map of_window) (plain_holds q (after b c) then f)
         ∙ sym (plain_told before (own b) c q f (ap (option_map of_window) (plain_holds q b holds.0 f)))
 
-held_run : (later before : List Call) → AreAllowed nothing_brought (before ++ later)
+held_run : (later before : List BroughtCall) → AreAllowed nothing_brought (before ++ later)
     → held_from before (own (after_all nothing_brought before)) later ≡ own (after_all nothing_brought (before ++ later))
 held_run [] before ok = ap (λ cs. own (after_all nothing_brought cs)) (sym (append-nil before))
 held_run (c ∷ cs) before ok =
@@ -559,7 +559,7 @@ held_run (c ∷ cs) before ok =
     ∙ held_run cs (before ++ c ∷ []) oks
     ∙ ap (λ xs. own (after_all nothing_brought xs)) all
 
-held_all : (calls : List Call) → AreAllowed nothing_brought calls → held_by calls ≡ own (after_all nothing_brought calls)
+held_all : (calls : List BroughtCall) → AreAllowed nothing_brought calls → held_by calls ≡ own (after_all nothing_brought calls)
 held_all calls ok = held_run calls [] ok
 
 pub base_seen : BaseIsSeen
@@ -577,14 +577,14 @@ source_holder calls q ok =
 
 -- ---- what is held is what was begun
 
-held_append : (xs ys before : List Call) (h : Held)
+held_append : (xs ys before : List BroughtCall) (h : Held)
     → held_from before h (xs ++ ys) ≡ held_from (before ++ xs) (held_from before h xs) ys
 held_append [] ys before h = ap (λ bs. held_from bs h ys) (sym (append-nil before))
 held_append (x ∷ xs) ys before h =
     held_append xs ys (before ++ x ∷ []) (held_after before h x)
     ∙ ap (λ bs. held_from bs (held_from (before ++ x ∷ []) (held_after before h x) xs) ys) (append_assoc before (x ∷ []) xs)
 
-held_more : (calls : List Call) (c : Call) → held_by (calls ++ c ∷ []) ≡ held_after calls (held_by calls) c
+held_more : (calls : List BroughtCall) (c : BroughtCall) → held_by (calls ++ c ∷ []) ≡ held_after calls (held_by calls) c
 held_more calls c = held_append calls (c ∷ []) [] (λ q. None)
 
 -- what is given where a test holds
@@ -592,7 +592,7 @@ given : {X : Type 0} (t : Bool) (o : Option X) (y : X) → cond t o None ≡ Som
 given true o y e = refl
 given false o y e = cc
 
-begun_filtered : (before : List Call) (held : Held) (c : Call) (q : Query) (b : Base) → begun before held c q ≡ Some b → is_filtered q ≡ true
+begun_filtered : (before : List BroughtCall) (held : Held) (c : BroughtCall) (q : Query) (b : Base) → begun before held c q ≡ Some b → is_filtered q ≡ true
 begun_filtered before held (Put r p u) q b e =
     both_first (is_filtered q) _ (both_first (is_filtered q && query_eq r q) (path_eq p q.path)
     (given (is_filtered q && query_eq r q && path_eq p q.path) (Some (record { tree = children_alone u; whole = false })) b e))
@@ -600,7 +600,7 @@ begun_filtered before held (Recover registered kept) q b e =
     inherits_filtered before held registered kept q (given (inherits before held registered kept q) (option_map children_of (seen before held q)) b e)
 
 -- nothing begins for what holds already, unless it ends
-begins_not : (before : List Call) (held : Held) (c : Call) (q : Query) → is_filtered q ≡ true → is_some (held q) ≡ true → ends q c ≡ false
+begins_not : (before : List BroughtCall) (held : Held) (c : BroughtCall) (q : Query) → is_filtered q ≡ true → is_some (held q) ≡ true → ends q c ≡ false
     → begun before held c q ≡ None
 begins_not before held (Put r p u) q f s e =
     ap (λ t. cond t (Some (record { tree = children_alone u; whole = false })) None)
@@ -621,13 +621,13 @@ begins_not before held (Recover registered kept) q f s e =
     let here : Contains registered q = of_among registered q (not_false (is_among registered q) e) in
     sym none ∙ any_with (may_show held q) registered q here (λ i. supplies_itself q (form_filtered q f) i && s i)))
 
-held_still : (before : List Call) (held : Held) (c : Call) (q : Query) (b : Base) → is_filtered q ≡ true → held q ≡ Some b → ends q c ≡ false
+held_still : (before : List BroughtCall) (held : Held) (c : BroughtCall) (q : Query) (b : Base) → is_filtered q ≡ true → held q ≡ Some b → ends q c ≡ false
     → held_after before held c q ≡ Some (record b { tree = with_own q b.tree c })
 held_still before held c q b f s e =
     λ i. option_or (begins_not before held c q f (ap is_some s) e i)
     (cond (e i) None (option_map (with_pushed q c) (s i)))
 
-since_from : (later before : List Call) (held : Held) (q : Query) (b : Base) → is_filtered q ≡ true → held q ≡ Some b → lets_be q later ≡ true
+since_from : (later before : List BroughtCall) (held : Held) (q : Query) (b : Base) → is_filtered q ≡ true → held q ≡ Some b → lets_be q later ≡ true
     → held_from before held later q ≡ Some (record b { tree = with_all_own q b.tree later })
 since_from [] before held q b f s l = s
 since_from (c ∷ cs) before held q b f s l =
@@ -636,7 +636,7 @@ since_from (c ∷ cs) before held q b f s l =
     (held_still before held c q b f s (or_left _ (list_any (ends q) cs) none))
     (ap not (or_right (ends q c) _ none))
 
-begun_now : (before : List Call) (c : Call) (q : Query) (b : Base) → begun before (held_by before) c q ≡ Some b
+begun_now : (before : List BroughtCall) (c : BroughtCall) (q : Query) (b : Base) → begun before (held_by before) c q ≡ Some b
     → held_after before (held_by before) c q ≡ Some b
 begun_now before c q b e =
     ap (λ o. option_or o (cond (ends q c) None (option_map (with_pushed q c) (held_by before q)))) e
@@ -648,24 +648,24 @@ held_since before later c q b e l =
     (begun_filtered before (held_by before) c q b e) (begun_now before c q b e) l
 
 -- some call began it, and none put an end to it since
-record IsBegun (q : Query) (calls : List Call) : Type 0 where
-  before : List Call
-  later : List Call
-  call : Call
+record IsBegun (q : Query) (calls : List BroughtCall) : Type 0 where
+  before : List BroughtCall
+  later : List BroughtCall
+  call : BroughtCall
   window : Base
   split : calls ≡ before ++ call ∷ later
   begins : begun before (held_by before) call q ≡ Some window
   lets : lets_be q later ≡ true
 
-none_more : (test : Call → Bool) (xs : List Call) (c : Call) → list_any test xs ≡ false → test c ≡ false
+none_more : (test : BroughtCall → Bool) (xs : List BroughtCall) (c : BroughtCall) → list_any test xs ≡ false → test c ≡ false
     → list_any test (xs ++ c ∷ []) ≡ false
 none_more test [] c e f = or_false _ _ f refl
 none_more test (x ∷ xs) c e f = or_false _ _ (or_left _ (list_any test xs) e) (none_more test xs c (or_right (test x) _ e) f)
 
-abbrev Stands : Query → List Call → Type 0
+abbrev Stands : Query → List BroughtCall → Type 0
 Stands q calls = (held_by calls q ≡ None) ⊎ IsBegun q calls
 
-stands_next : (q : Query) (calls : List Call) (c : Call) → Stands q calls → Stands q (calls ++ c ∷ [])
+stands_next : (q : Query) (calls : List BroughtCall) (c : BroughtCall) → Stands q calls → Stands q (calls ++ c ∷ [])
 stands_next q calls c s = at (begun calls (held_by calls) c q) refl (ends q c) refl s
   where
     behind : (o : Option Base) → begun calls (held_by calls) c q ≡ o → (t : Bool) → ends q c ≡ t
@@ -690,7 +690,7 @@ stands_next q calls c s = at (begun calls (held_by calls) c q) refl (ends q c) r
           lets = ap not (none_more (ends q) h.later c (not_true _ h.lets) g);
         })
 
-stands_behind : (later calls : List Call) (q : Query) → Stands q calls → Stands q (calls ++ later)
+stands_behind : (later calls : List BroughtCall) (q : Query) → Stands q calls → Stands q (calls ++ later)
 stands_behind [] calls q s = subst (Stands q) (sym (append-nil calls)) s
 stands_behind (c ∷ cs) calls q s =
     subst (Stands q) (append_assoc calls (c ∷ []) cs) (stands_behind cs (calls ++ c ∷ []) q (stands_next q calls c s))
@@ -714,7 +714,7 @@ handed_seen calls registered kept q ok e =
     ∙ ap (λ s. option_map of_window (option_and_then (window_of new.windows) s)) (own_source new.registered new.windows q (have_forms new holds.0 holds.1) there)
     ∙ owns
   where
-    c : Call
+    c : BroughtCall
     c = Recover registered kept
 
     b : Brought

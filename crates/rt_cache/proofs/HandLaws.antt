@@ -17,7 +17,7 @@ use Rattle.rt_query.specs.QueryOrder.{query_cmp}
 use Rattle.rt_cache.specs.Brought.{Window, Brought, region_part, base, knows}
 use Rattle.rt_cache.specs.Recover.{reaches, regions_kept, in_query_order, is_among, cut, is_lost, heirs, window_left, handed_on}
 use Rattle.rt_cache.specs.declared.regions.Region.{Region}
-use Rattle.rt_cache.specs.declared.run.Call.TheVariants.{Recover}
+use Rattle.rt_cache.specs.declared.run.BroughtCall.TheVariants.{Recover}
 use Rattle.rt_cache.specs.declared.windows.Window as inside
 use Rattle.rt_cache.specs.inside.Held.{pairs_of, entries_of, held}
 use Rattle.rt_cache.specs.inside.Sources.{AreBeside, HaveForms}

@@ -26,8 +26,8 @@ use Rattle.rt_cache.specs.Canonical.{IsCanonical}
 use Rattle.rt_cache.specs.Recover.{reaches, part_for, parts_of, with_regions, regions_kept}
 use Rattle.rt_cache.specs.Recover.{is_among, in_query_order, cut, is_lost, heirs, handed_on, recover}
 use Rattle.rt_cache.specs.Runs.{IsAllowed, after, after_all}
-use Rattle.rt_cache.specs.declared.run.Call.{Call}
-use Rattle.rt_cache.specs.declared.run.Call.TheVariants.{Put, Recover}
+use Rattle.rt_cache.specs.declared.run.BroughtCall.{BroughtCall}
+use Rattle.rt_cache.specs.declared.run.BroughtCall.TheVariants.{Put, Recover}
 use Rattle.rt_cache.proofs.Among.{among}
 use Rattle.rt_cache.proofs.Changes.{recover_stays}
 use Rattle.rt_cache.proofs.Heirs.{left_forms, handed_heirs}
@@ -308,19 +308,19 @@ nothing_lost registered kept b h reached known =
 
 -- ---- runs of calls
 
-kept_canonical : (b : Brought) (calls : List Call) → All IsAllowed calls → IsCanonical b
+kept_canonical : (b : Brought) (calls : List BroughtCall) → All IsAllowed calls → IsCanonical b
     → IsCanonical (after_all b calls)
 kept_canonical b [] ok h = h
 kept_canonical b (c ∷ calls) ok h =
     kept_canonical (after b c) calls (All-tail IsAllowed c calls ok)
     (one c (All-head IsAllowed c calls ok))
   where
-    one : (c : Call) → IsAllowed c → IsCanonical (after b c)
+    one : (c : BroughtCall) → IsAllowed c → IsCanonical (after b c)
     one (Put q p t) a = push_stays q b (p, t) h
     one (Recover registered kept) a = recover_stays registered kept b a h
 
 -- what calls leave is in order
-pub calls_canonical : (calls : List Call) → All IsAllowed calls
+pub calls_canonical : (calls : List BroughtCall) → All IsAllowed calls
     → IsCanonical (after_all nothing_brought calls)
 calls_canonical calls ok = kept_canonical nothing_brought calls ok (record {
   regions = tt;

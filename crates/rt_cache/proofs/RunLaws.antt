@@ -18,8 +18,8 @@ use Rattle.rt_cache.specs.Canonical.{IsCanonical}
 use Rattle.rt_cache.specs.Recover.{reaches, parts_of, with_regions}
 use Rattle.rt_cache.specs.Runs.{IsAllowed, after, after_all}
 use Rattle.rt_cache.specs.laws.Runs.{with_push, pushed, known_after, is_known, PlainBaseIsWhatWasPushed}
-use Rattle.rt_cache.specs.declared.run.Call.{Call}
-use Rattle.rt_cache.specs.declared.run.Call.TheVariants.{Put, Recover}
+use Rattle.rt_cache.specs.declared.run.BroughtCall.{BroughtCall}
+use Rattle.rt_cache.specs.declared.run.BroughtCall.TheVariants.{Put, Recover}
 use Rattle.rt_cache.proofs.Bases.{plain_found}
 use Rattle.rt_cache.proofs.Changes.{recover_stays}
 use Rattle.rt_cache.proofs.Cuts.{any_above, any_put, any_with, above-trans, part_any}
@@ -294,11 +294,11 @@ same_regions q b a =
       | Some rest ↦ refl
     ]
 
-step_canonical : (b : Brought) (c : Call) → IsAllowed c → IsCanonical b → IsCanonical (after b c)
+step_canonical : (b : Brought) (c : BroughtCall) → IsAllowed c → IsCanonical b → IsCanonical (after b c)
 step_canonical b (Put q x u) ok h = push_stays q b (x, u) h
 step_canonical b (Recover registered kept) ok h = recover_stays registered kept b ok h
 
-step_true : (t : PathTree) (b : Brought) (c : Call) → have_overlap b.regions ≡ false
+step_true : (t : PathTree) (b : Brought) (c : BroughtCall) → have_overlap b.regions ≡ false
     → IsTrueTo t b.regions → IsTrueTo (with_push t c) (after b c).regions
 step_true t b (Put q x u) e h =
     elim (is_filtered q) as (λ f. IsTrueTo (cond f t (put t x u)) (cond f (option_map_or (λ rest. record b { windows = windows_pushed q rest u b.windows }) (strip q.path x) b) (push_plain b (x, u))).regions) [
@@ -308,7 +308,7 @@ step_true t b (Put q x u) e h =
 step_true t b (Recover registered kept) e h =
     true_with t _ _ (true_filter (λ p. reaches kept p) t b.regions h) (true_all t kept _ (true_filter (λ p. not (reaches kept p)) t b.regions h))
 
-pub step_known : (p : Path) (b : Brought) (c : Call)
+pub step_known : (p : Path) (b : Brought) (c : BroughtCall)
     → any_above p (after b c).regions ≡ known_after p (any_above p b.regions) c
 step_known p b (Put q x u) =
     elim (is_filtered q) as (λ f. any_above p (cond f (option_map_or (λ rest. record b { windows = windows_pushed q rest u b.windows }) (strip q.path x) b) (push_plain b (x, u))).regions ≡ cond f (any_above p b.regions) (any_above p b.regions || is_at_or_above x p)) [
@@ -319,13 +319,13 @@ step_known p b (Recover registered kept) =
     any_with p (filter (λ r. reaches kept r.0) b.regions) (flat_map (parts_of kept) (filter (λ r. not (reaches kept r.0)) b.regions)) ∙ known_cut kept b.regions p
 
 -- after calls it is in order, true to what was pushed, and known as told
-run_true : (calls : List Call) (b : Brought) (t : PathTree) → All IsAllowed calls → IsCanonical b
+run_true : (calls : List BroughtCall) (b : Brought) (t : PathTree) → All IsAllowed calls → IsCanonical b
     → IsTrueTo t b.regions
     → IsCanonical (after_all b calls) × IsTrueTo (fold with_push t calls) (after_all b calls).regions
 run_true [] b t ok h g = (h, g)
 run_true (c ∷ cs) b t ok h g = run_true cs (after b c) (with_push t c) (All-tail IsAllowed c cs ok) (step_canonical b c (All-head IsAllowed c cs ok) h) (step_true t b c h.apart g)
 
-pub run_known : (p : Path) (calls : List Call) (b : Brought)
+pub run_known : (p : Path) (calls : List BroughtCall) (b : Brought)
     → any_above p (after_all b calls).regions ≡ fold (known_after p) (any_above p b.regions) calls
 run_known p [] b = refl
 run_known p (c ∷ cs) b = run_known p cs (after b c) ∙ ap (λ k. fold (known_after p) k cs) (step_known p b c)
@@ -334,7 +334,7 @@ pub nothing_canonical : IsCanonical nothing_brought
 nothing_canonical = record { regions = tt; apart = refl; windows = tt; filtered = All-nil (λ (w : Query × Window). is_filtered w.0 ≡ true) }
 
 -- a region's part is that of what was pushed, where that is known
-pub held_part : (calls : List Call) (p : Path) → All IsAllowed calls
+pub held_part : (calls : List BroughtCall) (p : Path) → All IsAllowed calls
     → region_part (after_all nothing_brought calls).regions p ≡ cond (is_known calls p) (Some (sub (pushed calls) p)) None
 held_part calls p ok =
     let b : Brought = after_all nothing_brought calls in

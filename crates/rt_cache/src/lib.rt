@@ -26,4 +26,4 @@ pub use examples::{
     window_examples,
 };
 pub use laws::{run_law, window_law};
-pub use run::{Call, QueryList};
+pub use run::{BroughtCall, QueryList};

@@ -46,7 +46,7 @@ impl QueryList {
 
 /// A call that changes what is brought.
 #[derive(Drop)]
-pub enum Call {
+pub enum BroughtCall {
     /// A tree that was pushed on the listen of the query, at the path: [`Brought::put`].
     Put(Query, Path, Tree),
     /// The registered forms, and the listens kept: [`Brought::recover`].
@@ -58,7 +58,7 @@ impl Brought {
     ///
     /// Costs what its calls cost. Where memory is lacking, some of the first calls stay made, and
     /// none of those behind them. No calls take no memory.
-    pub fn run(&mut self, calls: &[Call]) -> Result<Vec<bool>, AllocError>
+    pub fn run(&mut self, calls: &[BroughtCall]) -> Result<Vec<bool>, AllocError>
         requires { AreAllowed self.old calls.now }
         ensures ok { OnOk result (self.new ≡ after_all self.old calls.now) }
         ensures taken { IfOk result (λ taken. taken.items ≡ taken_all self.old calls.now) }
@@ -75,7 +75,7 @@ impl Brought {
     }
 
     // Makes a call; whether it was taken.
-    fn make(&mut self, call: &Call) -> Result<bool, AllocError>
+    fn make(&mut self, call: &BroughtCall) -> Result<bool, AllocError>
         requires allowed { IsAllowed call.now }
         requires kept { IsKept self.old call.now }
         ensures ok { OnOk result (self.new ≡ after self.old call.now) }
@@ -83,8 +83,8 @@ impl Brought {
         ensures err { OnErr result (self.new ≡ self.old) }
     {
         match call {
-            Call::Put(query, path, tree) => self.put(query, path, tree),
-            Call::Recover(registered, kept) => {
+            BroughtCall::Put(query, path, tree) => self.put(query, path, tree),
+            BroughtCall::Recover(registered, kept) => {
                 self.recover(registered.as_slice(), kept.as_slice())?;
                 Ok(true)
             }

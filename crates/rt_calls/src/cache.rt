@@ -7,7 +7,7 @@ ghost use Rattle.rt_cache.specs.Runs.{IsAllowed, IsKept};
 
 use crate::fault::{Fault, Told};
 use crate::line::Line;
-use rt_cache::{Brought, Call, QueryList};
+use rt_cache::{Brought, BroughtCall, QueryList};
 use rt_query::Query;
 use rt_tree::MAX_LEVELS;
 
@@ -34,7 +34,7 @@ fn kept(line: &mut Line) -> Result<Vec<Query>, Fault>
 }
 
 // A push on the listen of a query, at a path, of a tree.
-fn push(line: &mut Line) -> Result<Call, Fault>
+fn push(line: &mut Line) -> Result<BroughtCall, Fault>
     ensures { IfOk result (λ call. IsAllowed call) }
 {
     let query = line.query();
@@ -42,11 +42,11 @@ fn push(line: &mut Line) -> Result<Call, Fault>
     if !query.path().is_prefix_of(&path) || path.keys().len() + tree.levels() > MAX_LEVELS {
         return Err(Fault::NoSuchCall);
     }
-    Ok(Call::Put(query, path, tree))
+    Ok(BroughtCall::Put(query, path, tree))
 }
 
 // A push, or a change of cover.
-fn call_of(line: &mut Line) -> Result<Call, Fault>
+fn call_of(line: &mut Line) -> Result<BroughtCall, Fault>
     ensures { IfOk result (λ call. IsAllowed call) }
 {
     if line.next() == "put" {
@@ -54,11 +54,11 @@ fn call_of(line: &mut Line) -> Result<Call, Fault>
     }
     let registered = queries(line)?;
     let kept = kept(line)?;
-    Ok(Call::Recover(QueryList::of(registered), QueryList::of(kept)))
+    Ok(BroughtCall::Recover(QueryList::of(registered), QueryList::of(kept)))
 }
 
 // The calls to the end of the line.
-fn calls(line: &mut Line) -> Result<Vec<Call>, Fault>
+fn calls(line: &mut Line) -> Result<Vec<BroughtCall>, Fault>
     ensures { IfOk result (λ calls. All IsAllowed calls.items) }
 {
     let mut calls = Vec::new(line.alloc);
@@ -101,12 +101,12 @@ fn keep(brought: &mut Brought, query: &Query) -> Told
 
 // The call is one that may be made: a push is on a listen that is kept, and the listens kept are
 // registered.
-fn admit(brought: &mut Brought, call: &Call) -> Told
+fn admit(brought: &mut Brought, call: &BroughtCall) -> Told
     ensures { OnOk result (IsKept brought.new call.now) }
 {
     match call {
-        Call::Put(query, _, _) => keep(brought, query),
-        Call::Recover(registered, kept) => {
+        BroughtCall::Put(query, _, _) => keep(brought, query),
+        BroughtCall::Recover(registered, kept) => {
             if are_among(registered.as_slice(), kept.as_slice()) {
                 Ok(())
             } else {
@@ -117,7 +117,7 @@ fn admit(brought: &mut Brought, call: &Call) -> Told
 }
 
 // Makes the call; whether it was taken.
-fn make(brought: &mut Brought, call: Call) -> Result<bool, Fault>
+fn make(brought: &mut Brought, call: BroughtCall) -> Result<bool, Fault>
     requires { IsAllowed call }
 {
     admit(brought, &call)?;

@@ -22,9 +22,9 @@ use Rattle.rt_forms.specs.contracts.forms.Forms as forms
 use Rattle.rt_cover.specs.contracts.cover.Cover as cover
 use Rattle.rt_view.specs.contracts.position.Position as position
 use Rattle.rt_view.specs.contracts.children.Child as child
-use Rattle.rt_view.specs.contracts.children.Known as known
+use Rattle.rt_view.specs.contracts.children.ChildChain as known
 use Rattle.rt_view.specs.contracts.children.Ranged as ranged
-use Rattle.rt_view.specs.contracts.window.Window as shown
+use Rattle.rt_view.specs.contracts.window.OrderedChildren as shown
 use Rattle.rt_view.specs.contracts.view.View as view
 use Rattle.rt_parts.specs.contracts.listeners.Held as listening
 use Rattle.rt_parts.specs.contracts.listeners.Listeners as listeners

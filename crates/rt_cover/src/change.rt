@@ -9,8 +9,7 @@ ghost use Rattle.rt_cover.specs.inside.Places.{IsTakenOut};
 
 use crate::by_path::HasForm;
 use crate::listen::{Kept, KeptList, Listen, is_kept, tags_of};
-use crate::listeners::{Listener, listener_at, place_of, stands_at};
-use crate::numbers::{Numbers, Sorted};
+use crate::listeners::{Listener, Numbers, Sorted, listener_at, place_of, stands_at};
 use std::alloc::{AllocError, Global};
 
 /// What a change of the listeners does to the listens kept: those that start, in the order of the
@@ -43,7 +42,7 @@ pub trait Choice {
 // ---- the listeners that a change ends
 
 // Tells which listeners end, by their numbers.
-pub(crate) trait Ending {
+pub(crate) trait EndedListeners {
     ghost ended: { Self → ℕ → Bool };
 
     // Whether the listener of that number ends.
@@ -76,7 +75,7 @@ pub(crate) struct OfNumbers<'a> {
     pub(crate) numbers: &'a [u64],
 }
 
-impl Ending for OfNumbers<'_> {
+impl EndedListeners for OfNumbers<'_> {
     ghost ended = { λ a number. list_any (λ n. n == number) a.numbers.now };
 
     fn ends(&self, number: u64) -> bool {
@@ -89,7 +88,7 @@ impl Ending for OfNumbers<'_> {
 }
 
 // The same of sorted numbers.
-impl Ending for Sorted {
+impl EndedListeners for Sorted {
     ghost ended = { λ a number. list_any (λ n. n == number) a };
 
     fn ends(&self, number: u64) -> bool {
@@ -107,7 +106,7 @@ pub(crate) struct OfChoice<'a, C> {
     pub(crate) choice: &'a C,
 }
 
-impl<C: Choice> Ending for OfChoice<'_, C> {
+impl<C: Choice> EndedListeners for OfChoice<'_, C> {
     ghost ended = { λ a number. C.chosen a.choice.now number };
 
     fn ends(&self, number: u64) -> bool {
@@ -223,7 +222,7 @@ pub(crate) fn comes_before(other: &Listener, listener: &Listener) -> bool
 }
 
 // Whether that holds of one of those that do not end.
-fn is_replaced<E: Ending>(listeners: &[Listener], ending: &E, listener: &Listener) -> bool
+fn is_replaced<E: EndedListeners>(listeners: &[Listener], ending: &E, listener: &Listener) -> bool
     ensures { result ≡ is_replaced (by_number (E.ended ending.now)) listeners.now listener.now }
 {
     listeners.iter().any(|other| !ending.ends(other.number()) && comes_before(other, listener))
@@ -231,7 +230,7 @@ fn is_replaced<E: Ending>(listeners: &[Listener], ending: &E, listener: &Listene
 
 // Whether a listen starts for the listener: it does not end, none replaces it, and no listen of its
 // form is kept.
-fn starts<E: Ending>(
+fn starts<E: EndedListeners>(
     listeners: &[Listener],
     kept: &[Listen],
     ending: &E,
@@ -245,7 +244,7 @@ fn starts<E: Ending>(
 }
 
 // Whether more listens start than there is room for.
-pub(crate) fn exceeds<E: Ending>(
+pub(crate) fn exceeds<E: EndedListeners>(
     listeners: &[Listener],
     kept: &[Listen],
     ending: &E,
@@ -269,7 +268,7 @@ pub(crate) fn exceeds<E: Ending>(
 // ---- what the end of some listeners does to the list
 
 // Takes out the listeners that end.
-pub(crate) fn retain_left<E: Ending>(listeners: &mut Vec<Listener>, ending: &E)
+pub(crate) fn retain_left<E: EndedListeners>(listeners: &mut Vec<Listener>, ending: &E)
     ensures { listeners.new.items ≡ left (by_number (E.ended ending.now)) listeners.old.items }
 {
     listeners.retain(|listener| !ending.ends(listener.number()));

@@ -6,12 +6,14 @@ ghost use Rattle.std.specs.List.{find, list_any, All, enumerate_from};
 ghost use Rattle.std.specs.Option.{option_copied, option_map, option_map_or};
 
 use crate::by_path::HasForm;
-use crate::change::{self, Choice, Delta, Ending, OfChoice, OfNumbers, Plan, Revoked};
+use crate::change::{self, Choice, Delta, EndedListeners, OfChoice, OfNumbers, Plan, Revoked};
 use crate::error::CoverError;
 use crate::listen::{self, KeptList, Listen, listens_at};
-use crate::listeners::{Listener, Listeners, enter, forms, into_form, shown, started_one};
+use crate::listeners::{
+    Listener, Listeners, Numbers, Sorted, add_some, enter, forms, into_form, shown, sort_once,
+    started_one,
+};
 use crate::listens::Listens;
-use crate::numbers::{Numbers, Sorted, add_some, sort_once};
 use crate::successors::numbers_begun;
 use crate::supply::{is_first, is_left};
 use rt_query::Query;
@@ -250,7 +252,7 @@ impl Cover {
 
     // Whether a change that ends these listeners would need a tag above the last one. No more listens
     // start than there are listeners.
-    fn lacks_tag_to_end<E: Ending>(&self, ending: &E) -> bool
+    fn lacks_tag_to_end<E: EndedListeners>(&self, ending: &E) -> bool
         ensures { result ≡ lacks_tag self.now (left (by_number (E.ended ending.now)) self.now.listeners) }
     {
         let room = self.last_tag - self.given;
@@ -307,7 +309,7 @@ impl Cover {
 
     // The tag of the listen that the end of these listeners loses for that number's: its form's, where it
     // is the first of the form and none is left.
-    fn lost_tag<E: Ending>(&self, number: u64, ending: &E) -> Option<u64>
+    fn lost_tag<E: EndedListeners>(&self, number: u64, ending: &E) -> Option<u64>
         ensures { (p : ℕ → Bool) → option_map_or p result false
             ≡ list_any (is_lost_by (by_number (E.ended ending.now)) self.now.listeners p number)
             self.now.kept }
@@ -326,7 +328,11 @@ impl Cover {
     }
 
     // The tags of the listens that the end of these listeners loses for these numbers.
-    fn tags_lost<E: Ending>(&self, numbers: &[u64], ending: &E) -> Result<Vec<u64>, AllocError>
+    fn tags_lost<E: EndedListeners>(
+        &self,
+        numbers: &[u64],
+        ending: &E,
+    ) -> Result<Vec<u64>, AllocError>
         ensures { IfOk result (λ tags. (p : ℕ → Bool) → list_any p tags.items
             ≡ list_any (λ n. list_any (is_lost_by (by_number (E.ended ending.now)) self.now.listeners p n)
             self.now.kept) numbers.now) }
@@ -352,7 +358,7 @@ impl Cover {
     }
 
     // The numbers of those for whom a listen starts once these are lost.
-    fn begun<E: Ending>(&self, ending: &E, gone: &[Listen]) -> Result<Vec<u64>, AllocError>
+    fn begun<E: EndedListeners>(&self, ending: &E, gone: &[Listen]) -> Result<Vec<u64>, AllocError>
         requires { gone.now ≡ lost (by_number (E.ended ending.now)) self.now.kept self.now.listeners }
         ensures { IfOk result (λ numbers. numbers.items ≡ map (λ l. l.0)
             (beginners (by_number (E.ended ending.now)) self.now.kept self.now.listeners)) }
@@ -363,7 +369,7 @@ impl Cover {
     }
 
     // What the end of these listeners starts and stops, where the listens of these tags are lost.
-    fn plan<E: Ending>(&self, ending: &E, tags: &[u64]) -> Result<Plan, AllocError>
+    fn plan<E: EndedListeners>(&self, ending: &E, tags: &[u64]) -> Result<Plan, AllocError>
         requires tags { tags.now ≡ map (λ k. k.tag)
             (lost (by_number (E.ended ending.now)) self.now.kept self.now.listeners) }
         requires room { lacks_tag self.now
@@ -392,7 +398,7 @@ impl Cover {
     }
 
     // Ends these listeners, where no tag is lacking, and the listens of these tags are lost.
-    fn end<E: Ending>(&mut self, ending: &E, tags: &[u64]) -> Result<Delta, CoverError>
+    fn end<E: EndedListeners>(&mut self, ending: &E, tags: &[u64]) -> Result<Delta, CoverError>
         requires tags { tags.now ≡ map (λ k. k.tag)
             (lost (by_number (E.ended ending.now)) self.old.kept self.old.listeners) }
         requires room { lacks_tag self.old

@@ -1,9 +1,10 @@
 // The laws of the cover.
 ghost use Rattle.rt_cover.specs.laws.Apart.{PlainsStandApart, NeededStandApart, KeptStandApart};
 ghost use Rattle.rt_cover.specs.laws.KeptListens.{KeptHaveForms, NeededStay, TagsStayApart};
-ghost use Rattle.rt_cover.specs.laws.Needed.{SuppliesItself, SuppliesOnward, SuppliesOneWay};
-ghost use Rattle.rt_cover.specs.laws.Needed.{NeededAreFewest};
+ghost use Rattle.rt_cover.specs.laws.Needed.{SuppliesItself, SuppliesOnward, SuppliesOneWay, NeededAreFewest};
 ghost use Rattle.rt_cover.specs.laws.Runs.{EveryRunIsSound};
+ghost use Rattle.rt_cover.specs.laws.Examples.{CoverChanges, RevokedOnce, NoTagLeft, RangesAreShared};
+ghost use Rattle.rt_cover.specs.laws.Examples.{WiderTakesOver, LesserTagSupplies};
 
 /// The three facts of supply on which the fewest listens stand.
 pub fn supply_law()
@@ -37,4 +38,22 @@ pub fn apart_law()
 /// fewest, each certified, and the tags that were given are 1, 2, 3 and so on.
 pub fn run_law()
     ensures { EveryRunIsSound }
+{}
+
+// ---- outside examples, which the prover computes
+
+/// A listen at a parent takes over from those below it and gives back; a tag is revoked once; two
+/// tags do not do for three listens.
+pub fn change_examples()
+    ensures changes { CoverChanges }
+    ensures once { RevokedOnce }
+    ensures last { NoTagLeft }
+{}
+
+/// Two ranges supply a third; a wider one takes over from one with a limit and gives it back; of two
+/// that supply a query the lesser tag is told.
+pub fn range_examples()
+    ensures shared { RangesAreShared }
+    ensures wider { WiderTakesOver }
+    ensures lesser { LesserTagSupplies }
 {}

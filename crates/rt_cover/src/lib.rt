@@ -15,19 +15,18 @@ mod by_path;
 mod change;
 mod cover;
 mod error;
-mod examples;
 mod laws;
 mod listen;
 mod listeners;
 mod listens;
-mod numbers;
 mod successors;
 mod supply;
 
 pub use change::{Choice, Delta, Revoked};
 pub use cover::Cover;
 pub use error::CoverError;
-pub use examples::{change_examples, range_examples};
-pub use laws::{apart_law, kept_law, needed_law, run_law, supply_law};
+pub use laws::{
+    apart_law, change_examples, kept_law, needed_law, range_examples, run_law, supply_law,
+};
 pub use listen::{Kept, KeptList};
-pub use numbers::Numbers;
+pub use listeners::Numbers;

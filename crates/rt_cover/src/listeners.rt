@@ -1,8 +1,8 @@
 // The registered listeners, by number and by form.
 ghost use Rattle.std.specs.Prelude.{◌≡◌, IfOk, ◌<◌, ◌+◌, ◌^◌, [], ◌&&◌, ◌==◌, true, false, ℕ, Bool, length};
-ghost use Rattle.std.specs.Prelude.{vec_len, vec_capacity, OnOk, OnErr, ◌≤◌, ◌∷◌, ◌++◌, not, map};
+ghost use Rattle.std.specs.Prelude.{vec_len, vec_capacity, OnOk, OnErr, ◌≤◌, ◌∷◌, ◌++◌, not, map, ◌||◌};
 ghost use Rattle.std.specs.List.{find, list_any, All, AllPairs, filter};
-ghost use Rattle.std.specs.Option.{option_copied};
+ghost use Rattle.std.specs.Option.{option_copied, option_map_or};
 ghost use Rattle.rt_query.specs.Supply.{form, does_supply};
 ghost use Rattle.rt_tree.specs.PathTree.{path_eq};
 ghost use Rattle.rt_tree.specs.Assignments.{is_at_or_above};
@@ -18,7 +18,7 @@ ghost use Rattle.rt_cover.specs.Cover.{forms, first_listener};
 ghost use Rattle.rt_query.specs.Supply as Supply;
 
 use crate::by_path::HasForm;
-use crate::change::{Ending, OfNumbers, retain_left, take_one};
+use crate::change::{EndedListeners, OfNumbers, retain_left, take_one};
 use crate::listen::{Kept, Listen};
 use crate::listens::Listens;
 use crate::supply::is_first;
@@ -136,7 +136,7 @@ impl Model for Listeners {
 }
 
 // Takes the numbers of those that end out of the tree.
-fn take_ended<E: Ending>(forms: &mut Forms, listeners: &[Listener], ending: &E)
+fn take_ended<E: EndedListeners>(forms: &mut Forms, listeners: &[Listener], ending: &E)
     requires rise { AllPairs (λ l m. l.0 < m.0) listeners.now }
     requires own { All (λ l. form l.1 ≡ l.1) listeners.now }
     requires held { IsHeld listeners.now forms.old }
@@ -295,7 +295,7 @@ impl Listeners {
     }
 
     // Takes out those that end, of all.
-    fn end_among<E: Ending>(&mut self, ending: &E)
+    fn end_among<E: EndedListeners>(&mut self, ending: &E)
         requires rise { AllPairs (λ l m. l.0 < m.0) self.old }
         requires own { All (λ l. form l.1 ≡ l.1) self.old }
         ensures { self.new ≡ left (by_number (E.ended ending.now)) self.old }
@@ -305,7 +305,7 @@ impl Listeners {
     }
 
     // Takes out the listeners that end: where they are few each is found, and else all are gone over.
-    pub(crate) fn retain_left<E: Ending>(&mut self, ending: &E)
+    pub(crate) fn retain_left<E: EndedListeners>(&mut self, ending: &E)
         requires rise { AllPairs (λ l m. l.0 < m.0) self.old }
         requires own { All (λ l. form l.1 ≡ l.1) self.old }
         ensures { self.new ≡ left (by_number (E.ended ending.now)) self.old }
@@ -474,4 +474,132 @@ pub(crate) fn forms(listeners: &Listeners) -> Result<Vec<Query>, AllocError>
         }
     }
     Ok(forms)
+}
+
+// ---- lists of numbers
+
+// Sorts the numbers, each once.
+pub(crate) fn sort_once(numbers: &mut Vec<u64>)
+    ensures rise { AllPairs (λ m n. m < n) numbers.new.items }
+    ensures same { (p : ℕ → Bool) → list_any p numbers.new.items ≡ list_any p numbers.old.items }
+{
+    numbers.sort_unstable();
+    numbers.dedup();
+}
+
+// Adds a number, where there is one.
+pub(crate) fn add_some(numbers: &mut Vec<u64>, number: Option<u64>) -> Result<(), AllocError>
+    ensures { OnOk result ((p : ℕ → Bool) → list_any p numbers.new.items
+        ≡ (list_any p numbers.old.items || option_map_or p number false)) }
+{
+    match number {
+        Some(number) => numbers.push(number)?,
+        None => {}
+    }
+    Ok(())
+}
+
+// Equal numbers, each once, among which one is found by halving.
+pub(crate) struct Sorted {
+    items: Vec<u64>,
+}
+
+impl Drop for Sorted {
+    fn drop(self) {
+        let Sorted { items: _ } = self;
+    }
+}
+
+impl Model for Sorted {
+    ghost use Rattle.std.specs.Prelude.{List, ℕ, ◌<◌};
+    ghost use Rattle.std.specs.List.{AllPairs};
+
+    ghost Value = { List ℕ };
+
+    ghost view = { λ a. a.items.items };
+
+    ghost invariant = { λ a. AllPairs (λ m n. m < n) a.items.items };
+}
+
+impl Sorted {
+    // The numbers, sorted.
+    pub(crate) fn of(alloc: Global, numbers: &[u64]) -> Result<Sorted, AllocError>
+        ensures { IfOk result (λ sorted. (p : ℕ → Bool) → list_any p sorted ≡ list_any p numbers.now) }
+    {
+        let mut items = Vec::with_capacity(alloc, numbers.len())?;
+        items.extend_from_slice(numbers)?;
+        sort_once(&mut items);
+        Ok(Sorted { items })
+    }
+
+    // Numbers that rise.
+    pub(crate) fn rising(items: Vec<u64>) -> Sorted
+        requires { AllPairs (λ m n. m < n) items.items }
+        ensures { result ≡ items.items }
+    {
+        Sorted { items }
+    }
+
+    // The numbers, in order.
+    pub(crate) fn as_slice(&self) -> &[u64]
+        ensures { result.now ≡ self.now }
+    {
+        &self.items
+    }
+
+    // The numbers, given away.
+    pub(crate) fn into_vec(self) -> Vec<u64>
+        ensures { result.items ≡ self }
+    {
+        let Sorted { items } = self;
+        items
+    }
+
+    // Whether the number is one of them, by halving.
+    pub(crate) fn has(&self, number: u64) -> bool
+        ensures { result ≡ list_any (λ n. n == number) self.now }
+    {
+        self.items.binary_search(&number).is_ok()
+    }
+}
+
+/// Numbers of listeners, or tags, in rising order.
+pub struct Numbers {
+    items: Vec<u64>,
+}
+
+impl Drop for Numbers {
+    fn drop(self) {
+        let Numbers { items: _ } = self;
+    }
+}
+
+impl Model for Numbers {
+    ghost use Rattle.std.specs.Prelude.{List, ℕ};
+
+    ghost Value = { List ℕ };
+
+    ghost view = { λ a. a.items.items };
+}
+
+impl Numbers {
+    pub(crate) fn of(items: Vec<u64>) -> Numbers
+        ensures { result ≡ items.items }
+    {
+        Numbers { items }
+    }
+
+    /// The numbers, in order.
+    pub fn as_slice(&self) -> &[u64]
+        ensures { result.now ≡ self.now }
+    {
+        self.items.as_slice()
+    }
+
+    // Takes a number out.
+    pub(crate) fn take_out(&mut self, number: u64)
+        ensures { self.new ≡ filter (λ t. not (t == number)) self.old }
+    {
+        self.items.retain(|item| *item != number);
+    }
 }

@@ -14,11 +14,10 @@ ghost use Rattle.rt_cover.specs.inside.Index.{by_form, form_of, AreApart};
 ghost use Rattle.rt_cover.specs.inside.Widest.{Entry, IsOfPath, leads, IsOfTops};
 
 use crate::by_path::{HasForm, supply};
-use crate::change::Ending;
+use crate::change::EndedListeners;
 use crate::listen::Listen;
-use crate::listeners::{Listener, Listeners};
+use crate::listeners::{Listener, Listeners, add_some};
 use crate::listens::in_order;
-use crate::numbers::add_some;
 use crate::supply::{Widest, has_left, is_behind, is_wider_at, places_of_widest};
 use rt_forms::Filtered;
 use rt_query::Query;
@@ -26,7 +25,7 @@ use rt_tree::Path;
 use std::alloc::{AllocError, Global};
 
 // Whether the listener is left, and none that is comes before it.
-fn begins<E: Ending>(
+fn begins<E: EndedListeners>(
     listeners: &Listeners,
     ending: &E,
     widest: Option<&Widest<'_>>,
@@ -43,7 +42,7 @@ fn begins<E: Ending>(
 }
 
 // The number again, where a listen starts for its listener, which is this one.
-fn begun<E: Ending>(
+fn begun<E: EndedListeners>(
     listeners: &Listeners,
     ending: &E,
     widest: Option<&Widest<'_>>,
@@ -65,7 +64,7 @@ fn begun<E: Ending>(
 }
 
 // The same of the listener of that number, which is looked for.
-fn begun_at<E: Ending>(
+fn begun_at<E: EndedListeners>(
     listeners: &Listeners,
     ending: &E,
     widest: &Widest<'_>,
@@ -85,7 +84,7 @@ fn begun_at<E: Ending>(
 }
 
 // Adds the numbers of those of some listeners that begin.
-fn add_begun<E: Ending>(
+fn add_begun<E: EndedListeners>(
     numbers: &mut Vec<u64>,
     listeners: &Listeners,
     ending: &E,
@@ -107,7 +106,7 @@ fn add_begun<E: Ending>(
 }
 
 // The same, with the widest forms of the path that they mostly have.
-fn add_beside<E: Ending>(
+fn add_beside<E: EndedListeners>(
     numbers: &mut Vec<u64>,
     listeners: &Listeners,
     ending: &E,
@@ -178,7 +177,7 @@ fn behind<T>(items: &[T], count: usize) -> &[T]
 // Adds the numbers of the first of some listeners, and of the others that stand together with it, if they
 // begin; how many listeners these are. One alone is asked at once, and of several the widest forms of their
 // path.
-fn add_next<E: Ending>(
+fn add_next<E: EndedListeners>(
     numbers: &mut Vec<u64>,
     listeners: &Listeners,
     ending: &E,
@@ -214,7 +213,7 @@ fn add_next<E: Ending>(
 }
 
 // Adds the numbers of those of some listeners that begin. Ranges of one path mostly stand together.
-fn add_all<E: Ending>(
+fn add_all<E: EndedListeners>(
     numbers: &mut Vec<u64>,
     listeners: &Listeners,
     ending: &E,
@@ -251,7 +250,12 @@ fn is_supplied(ranges: &[Listen], form: &Query) -> bool
 
 // Whether the form at the other place, if any, is no other one that takes in the form at the place, and a
 // listener of this one is left.
-fn leads<E: Ending>(entries: &[Filtered], ending: &E, place: usize, last: Option<usize>) -> bool
+fn leads<E: EndedListeners>(
+    entries: &[Filtered],
+    ending: &E,
+    place: usize,
+    last: Option<usize>,
+) -> bool
     requires within { place < length entries.now }
     requires among { IfSome last (λ w. w < length entries.now) }
     ensures { (d : Entry) → result ≡ leads (E.ended ending.now) entries.now d place last }
@@ -260,7 +264,7 @@ fn leads<E: Ending>(entries: &[Filtered], ending: &E, place: usize, last: Option
 }
 
 // Whether one of the ranges supplies it besides.
-fn goes_in<E: Ending>(
+fn goes_in<E: EndedListeners>(
     ranges: &[Listen],
     entries: &[Filtered],
     ending: &E,
@@ -280,7 +284,7 @@ fn goes_in<E: Ending>(
 
 // Adds the numbers of those of these forms that one of the ranges supplies, but for some that don't begin:
 // a form of which none is left, or that the last one takes in that went in.
-fn add_forms<E: Ending>(
+fn add_forms<E: EndedListeners>(
     numbers: &mut Vec<u64>,
     ending: &E,
     ranges: &[Listen],
@@ -305,7 +309,7 @@ fn add_forms<E: Ending>(
 
 // Adds the numbers of those whose forms the ranges of a path supply: they have its path. Goes over its forms
 // once, however many ranges there are.
-fn add_at<E: Ending>(
+fn add_at<E: EndedListeners>(
     numbers: &mut Vec<u64>,
     listeners: &Listeners,
     ending: &E,
@@ -362,7 +366,7 @@ fn count_ranges(listens: &[Listen], path: &Path) -> usize
 
 // Adds the numbers of those whose forms the first of the listens supplies, or it and the other ranges of its
 // path that follow; how many listens these are.
-fn add_first<E: Ending>(
+fn add_first<E: EndedListeners>(
     numbers: &mut Vec<u64>,
     listeners: &Listeners,
     ending: &E,
@@ -391,7 +395,7 @@ fn add_first<E: Ending>(
 }
 
 // The numbers of those whose forms the listens supply, which stand in order: of all that may begin.
-fn supplied<E: Ending>(
+fn supplied<E: EndedListeners>(
     alloc: Global,
     listeners: &Listeners,
     ending: &E,
@@ -414,7 +418,7 @@ fn supplied<E: Ending>(
 }
 
 // The numbers of those that begin where the listens are lost, of whose ranges none takes in another.
-pub(crate) fn numbers_begun<E: Ending>(
+pub(crate) fn numbers_begun<E: EndedListeners>(
     alloc: Global,
     listeners: &Listeners,
     ending: &E,

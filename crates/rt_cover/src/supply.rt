@@ -17,7 +17,7 @@ ghost use Rattle.rt_forms.specs.Order.{AreInOrder};
 ghost use Rattle.rt_query.specs.Supply as Supply;
 
 use crate::by_path::HasForm;
-use crate::change::Ending;
+use crate::change::EndedListeners;
 use crate::listeners::{Listener, Listeners};
 use rt_forms::Filtered;
 use rt_query::{Query, query_cmp, unlimited_cmp};
@@ -36,14 +36,14 @@ fn has_lesser(numbers: &[u64], number: u64) -> bool
 }
 
 // Whether the listener of one is left.
-pub(crate) fn has_left<E: Ending>(numbers: &[u64], ending: &E) -> bool
+pub(crate) fn has_left<E: EndedListeners>(numbers: &[u64], ending: &E) -> bool
     ensures { result ≡ list_any (λ m. not (E.ended ending.now m)) numbers.now }
 {
     numbers.iter().any(|number| !ending.ends(*number))
 }
 
 // Whether that of a lesser one is.
-fn has_lesser_left<E: Ending>(numbers: &[u64], ending: &E, number: u64) -> bool
+fn has_lesser_left<E: EndedListeners>(numbers: &[u64], ending: &E, number: u64) -> bool
     ensures { result ≡ list_any (λ m. nat_lt m number && not (E.ended ending.now m)) numbers.now }
 {
     numbers
@@ -61,7 +61,7 @@ pub(crate) fn is_first(listeners: &Listeners, listener: &Listener) -> bool
 }
 
 // Whether a listener that is left has the form.
-pub(crate) fn is_left<E: Ending>(listeners: &Listeners, ending: &E, form: &Query) -> bool
+pub(crate) fn is_left<E: EndedListeners>(listeners: &Listeners, ending: &E, form: &Query) -> bool
     requires { Supply.form form.now ≡ form.now }
     ensures { result ≡ is_left_form (by_number (E.ended ending.now)) listeners.now form.now }
 {
@@ -69,7 +69,7 @@ pub(crate) fn is_left<E: Ending>(listeners: &Listeners, ending: &E, form: &Query
 }
 
 // Whether one of a lesser number has the listener's form, and is left.
-fn is_seen<E: Ending>(listeners: &Listeners, ending: &E, listener: &Listener) -> bool
+fn is_seen<E: EndedListeners>(listeners: &Listeners, ending: &E, listener: &Listener) -> bool
     requires { form listener.now.1 ≡ listener.now.1 }
     ensures { result
         ≡ list_any (λ m. query_eq m.1 listener.now.1 && nat_lt m.0 listener.now.0)
@@ -80,7 +80,7 @@ fn is_seen<E: Ending>(listeners: &Listeners, ending: &E, listener: &Listener) ->
 }
 
 // Whether one has the plain query of the path, and is left.
-fn has_plain<E: Ending>(listeners: &Listeners, ending: &E, path: &[Key]) -> bool
+fn has_plain<E: EndedListeners>(listeners: &Listeners, ending: &E, path: &[Key]) -> bool
     requires { All (λ l. form l.1 ≡ l.1) listeners.now }
     ensures { result ≡ list_any (λ l. path_eq (l.1).path path.now && not (is_filtered l.1))
         (left (by_number (E.ended ending.now)) listeners.now) }
@@ -89,7 +89,7 @@ fn has_plain<E: Ending>(listeners: &Listeners, ending: &E, path: &[Key]) -> bool
 }
 
 // Whether one has the plain query of a path above, and is left.
-fn has_plain_above<E: Ending>(listeners: &Listeners, ending: &E, path: &[Key]) -> bool
+fn has_plain_above<E: EndedListeners>(listeners: &Listeners, ending: &E, path: &[Key]) -> bool
     requires { All (λ l. form l.1 ≡ l.1) listeners.now }
     ensures { result ≡ list_any (λ l. (is_at_or_above (l.1).path path.now
         && nat_lt (length (l.1).path) (length path.now)) && not (is_filtered l.1))
@@ -104,7 +104,7 @@ fn has_plain_above<E: Ending>(listeners: &Listeners, ending: &E, path: &[Key]) -
 }
 
 // Whether the form takes in the query, and a listener of it is left.
-fn is_taker_left<E: Ending>(entry: &Filtered, ending: &E, query: &Query) -> bool
+fn is_taker_left<E: EndedListeners>(entry: &Filtered, ending: &E, query: &Query) -> bool
     ensures { result ≡ (takes_in entry.now.0 query.now
         && list_any (λ m. not (E.ended ending.now m)) entry.now.1) }
 {
@@ -112,7 +112,7 @@ fn is_taker_left<E: Ending>(entry: &Filtered, ending: &E, query: &Query) -> bool
 }
 
 // Whether that holds of one of these.
-fn has_taker_among<E: Ending>(entries: &[Filtered], ending: &E, query: &Query) -> bool
+fn has_taker_among<E: EndedListeners>(entries: &[Filtered], ending: &E, query: &Query) -> bool
     ensures { result
         ≡ list_any (λ e. takes_in e.0 query.now
         && list_any (λ m. not (E.ended ending.now m)) e.1) entries.now }
@@ -124,7 +124,7 @@ fn has_taker_among<E: Ending>(entries: &[Filtered], ending: &E, query: &Query) -
 
 // Whether one has another range of the path, which takes in the query's, and is left. Of the forms of the
 // path those alone are asked that stand in front of the query's, and these are found by halving.
-fn has_wider<E: Ending>(listeners: &Listeners, ending: &E, query: &Query) -> bool
+fn has_wider<E: EndedListeners>(listeners: &Listeners, ending: &E, query: &Query) -> bool
     ensures { result ≡ list_any (λ l. not (query_eq l.1 query.now) && takes_in l.1 query.now)
         (left (by_number (E.ended ending.now)) listeners.now) }
 {
@@ -134,7 +134,7 @@ fn has_wider<E: Ending>(listeners: &Listeners, ending: &E, query: &Query) -> boo
 }
 
 // The same, by the widest ones, where those of the query's path are given.
-fn has_wider_beside<E: Ending>(
+fn has_wider_beside<E: EndedListeners>(
     listeners: &Listeners,
     ending: &E,
     widest: Option<&Widest<'_>>,
@@ -156,7 +156,7 @@ fn has_wider_beside<E: Ending>(
 }
 
 // Whether one has another form at the query's path, which supplies it, and is left.
-fn is_supplied_there<E: Ending>(
+fn is_supplied_there<E: EndedListeners>(
     listeners: &Listeners,
     ending: &E,
     widest: Option<&Widest<'_>>,
@@ -176,7 +176,7 @@ fn is_supplied_there<E: Ending>(
 }
 
 // Whether one has another form, which supplies this one, and is left.
-fn is_supplied<E: Ending>(
+fn is_supplied<E: EndedListeners>(
     listeners: &Listeners,
     ending: &E,
     widest: Option<&Widest<'_>>,
@@ -194,7 +194,7 @@ fn is_supplied<E: Ending>(
 }
 
 // Whether one that is left comes before the listener.
-pub(crate) fn is_behind<E: Ending>(
+pub(crate) fn is_behind<E: EndedListeners>(
     listeners: &Listeners,
     ending: &E,
     widest: Option<&Widest<'_>>,
@@ -221,7 +221,7 @@ pub(crate) struct Widest<'a> {
 }
 
 // The place of the widest form, once that at one place more is looked at: whoever takes it in stays.
-fn wider_of<E: Ending>(
+fn wider_of<E: EndedListeners>(
     entries: &[Filtered],
     ending: &E,
     place: usize,
@@ -248,7 +248,7 @@ fn wider_of<E: Ending>(
 }
 
 // After each form the place of the widest one so far.
-pub(crate) fn places_of_widest<E: Ending>(
+pub(crate) fn places_of_widest<E: EndedListeners>(
     alloc: Global,
     entries: &[Filtered],
     ending: &E,

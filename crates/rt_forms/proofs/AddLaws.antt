@@ -7,7 +7,7 @@ use Rattle.rt_query.specs.Queries.{Query, is_filtered}
 use Rattle.rt_nodes.specs.Forest.{bare, times, Sound}
 use Rattle.rt_nodes.specs.Walks.{spot_in, index_in}
 use Rattle.rt_nodes.specs.Changes.{with_below, planted}
-use Rattle.rt_nodes.specs.declared.row.Spot.TheVariants.{Gap}
+use Rattle.rt_nodes.specs.declared.nodes.SeekResult.TheVariants.{Gap}
 use Rattle.rt_nodes.proofs.Paths.{here, index_spot}
 use Rattle.rt_forms.specs.Numbers.{with_number}
 use Rattle.rt_forms.specs.inside.Trees.{Standing, Trees, seen, seen_in, child_in, IsStanding, same_path, alike, Gained, Adds, AddsIn, empty, passed}

@@ -9,7 +9,7 @@ use Rattle.rt_query.specs.Queries.{Query, is_filtered}
 use Rattle.rt_query.specs.QueryEq.{query_eq}
 use Rattle.rt_nodes.specs.Forest.{IsRow, row_at}
 use Rattle.rt_nodes.specs.Walks.{IsPlace, index_in, place_in}
-use Rattle.rt_nodes.specs.declared.linked.Slot.{Slot}
+use Rattle.rt_nodes.specs.declared.nodes.Slot.{Slot}
 use Rattle.rt_nodes.proofs.Paths.{Found, find_found, find_lacks}
 use Rattle.rt_nodes.proofs.Reached.{same_some}
 use Rattle.rt_forms.specs.Forms.{Forms, numbers, AreFilteredAt}

@@ -9,7 +9,7 @@ use Rattle.rt_tree.specs.laws.Prefixes.{strip-some, strip-append}
 use Rattle.rt_query.specs.Queries.{Query}
 use Rattle.rt_nodes.specs.Forest.{node, size, IsRow, row_at}
 use Rattle.rt_nodes.specs.Walks.{IsPlace, index_in, place_in}
-use Rattle.rt_nodes.specs.declared.linked.Slot.{Slot}
+use Rattle.rt_nodes.specs.declared.nodes.Slot.{Slot}
 use Rattle.rt_nodes.proofs.Reached.{IsAt, at_place, row_at-none, place_of, place_in_store}
 use Rattle.rt_nodes.proofs.Paths.{find_found, find_lacks}
 use Rattle.rt_forms.specs.Forms.{Forms, numbers, IsHeardUnder}

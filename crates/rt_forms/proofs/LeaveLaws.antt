@@ -11,8 +11,8 @@ use Rattle.rt_query.specs.Queries.{Query}
 use Rattle.rt_nodes.specs.Forest.{Forest, bare, node, times, Links, IsRow, row_at}
 use Rattle.rt_nodes.specs.Walks.{spot_in, index_in}
 use Rattle.rt_nodes.specs.Changes.{Changed, InRow, IsHead, below_of, with_below, with_content, without}
-use Rattle.rt_nodes.specs.declared.linked.Slot.{Slot}
-use Rattle.rt_nodes.specs.declared.row.Spot.TheVariants.{Here, Gap}
+use Rattle.rt_nodes.specs.declared.nodes.Slot.{Slot}
+use Rattle.rt_nodes.specs.declared.nodes.SeekResult.TheVariants.{Here, Gap}
 use Rattle.rt_nodes.proofs.Reached.{same_some, row_at_is}
 use Rattle.rt_nodes.proofs.Joining.{slots_same}
 use Rattle.rt_nodes.proofs.Paths.{here, index_spot, found_in_row}

@@ -10,8 +10,8 @@ use Rattle.rt_nodes.specs.Forest.{bare, node, times, IsRow, row_at}
 use Rattle.rt_nodes.specs.Nodes.{Inserted}
 use Rattle.rt_nodes.specs.Walks.{spot_in, index_in}
 use Rattle.rt_nodes.specs.Changes.{Same, Changed, Grown, InRow, below_of, linked_in, with_below, with_content}
-use Rattle.rt_nodes.specs.declared.linked.Slot.{Slot}
-use Rattle.rt_nodes.specs.declared.row.Spot.TheVariants.{Here, Gap}
+use Rattle.rt_nodes.specs.declared.nodes.Slot.{Slot}
+use Rattle.rt_nodes.specs.declared.nodes.SeekResult.TheVariants.{Here, Gap}
 use Rattle.rt_nodes.proofs.Reached.{same_some, row_at_is, row_at-none}
 use Rattle.rt_nodes.proofs.Paths.{here, index_spot, found_in_row, Found, find_found}
 use Rattle.rt_nodes.proofs.Felling.{one_of}

@@ -15,8 +15,8 @@ use Rattle.rt_order.specs.laws.KeyOrder.{key_cmp_total, key_cmp-IsAntisymmetric}
 use Rattle.rt_nodes.specs.Forest.{bare, node, first, times, AllAfter, Sound, IsRow, row_at}
 use Rattle.rt_nodes.specs.Walks.{spot_in, index_in}
 use Rattle.rt_nodes.specs.Changes.{with_below, planted}
-use Rattle.rt_nodes.specs.declared.linked.Slot.{Slot}
-use Rattle.rt_nodes.specs.declared.row.Spot.TheVariants.{Here, Gap}
+use Rattle.rt_nodes.specs.declared.nodes.Slot.{Slot}
+use Rattle.rt_nodes.specs.declared.nodes.SeekResult.TheVariants.{Here, Gap}
 use Rattle.rt_nodes.proofs.Reached.{same_some, row_at_is, below_row, behind_row}
 use Rattle.rt_nodes.proofs.Joining.{slots_same}
 use Rattle.rt_nodes.proofs.Paths.{found_in_row, other_number}

@@ -8,7 +8,7 @@ use Rattle.rt_query.specs.Queries.{Query}
 use Rattle.rt_nodes.specs.Forest.{one_if, size, times, IsRow, row_at}
 use Rattle.rt_nodes.specs.Walks.{index_in, place_in}
 use Rattle.rt_nodes.specs.Changes.{Changed, Same}
-use Rattle.rt_nodes.specs.declared.linked.Slot.{Slot}
+use Rattle.rt_nodes.specs.declared.nodes.Slot.{Slot}
 use Rattle.rt_nodes.proofs.Reached.{row_at_is, IsAt}
 use Rattle.rt_nodes.proofs.Paths.{find_found, find_lacks}
 use Rattle.rt_nodes.proofs.Felling.{row_kept}

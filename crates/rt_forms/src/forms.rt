@@ -21,7 +21,7 @@ ghost use Rattle.rt_nodes.specs.Walks.{IsPlace};
 
 use crate::growth::grow;
 use crate::standing::{Filtered, Standing};
-use rt_nodes::{Linked, Siblings, Spot};
+use rt_nodes::{Linked, SeekResult, Siblings};
 use rt_query::Query;
 use rt_tree::Key;
 use std::alloc::{AllocError, Global};
@@ -301,8 +301,8 @@ pub(crate) fn add_row(
     ensures err { OnErr result (Same nodes.old nodes.new) }
 {
     let index = match nodes.seek(row, key) {
-        Spot::Here(index) => index,
-        Spot::Gap(previous, next) => {
+        SeekResult::Here(index) => index,
+        SeekResult::Gap(previous, next) => {
             let index = grow(nodes, alloc, row.parent, key, rest, number, query)?;
             nodes.link(previous, index, next);
             return match previous {
@@ -384,7 +384,7 @@ pub(crate) fn remove_row(
         (seen_in query.now key.now rest.now (row_at nodes.old row.first)) ≡ true }
     ensures { IsTaken nodes.old nodes.new row.first result row.parent key.now rest.now query.now number }
 {
-    let Spot::Here(index) = nodes.seek(row, key) else {
+    let SeekResult::Here(index) = nodes.seek(row, key) else {
         return row.first;
     };
     match rest.split_first() {

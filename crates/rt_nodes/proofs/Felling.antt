@@ -6,7 +6,7 @@ use Rattle.slab.specs.Slab.{Slab, get, slab_len, Updates}
 use Rattle.rt_nodes.specs.Forest.{Forest, bare, node, one_if, size, times, Links, IsRow, row_at}
 use Rattle.rt_nodes.specs.Walks.{IsPlace}
 use Rattle.rt_nodes.specs.Changes.{Felled}
-use Rattle.rt_nodes.specs.declared.linked.Slot.{Slot}
+use Rattle.rt_nodes.specs.declared.nodes.Slot.{Slot}
 use Rattle.rt_nodes.proofs.Reached.{IsAt, at_place, row_at_is, row_at-none, place_of, not_nowhere}
 
 -- ---- what stays

@@ -8,7 +8,7 @@ use Rattle.rt_tree.specs.PathTree.{Key}
 use Rattle.rt_nodes.specs.Forest.{Forest, bare, node, one_if, first, size, times, reached, IsRow, row_at}
 use Rattle.rt_nodes.specs.Walks.{IsPlace}
 use Rattle.rt_nodes.specs.Changes.{Same, Felled, Changed, Grown, with_content}
-use Rattle.rt_nodes.specs.declared.linked.Slot.{Slot}
+use Rattle.rt_nodes.specs.declared.nodes.Slot.{Slot}
 use Rattle.rt_nodes.proofs.Reached.{row_at_is, row_at-none, place_of, locate, not_nowhere}
 use Rattle.rt_nodes.proofs.Felling.{one_of, links_kept, row_kept}
 

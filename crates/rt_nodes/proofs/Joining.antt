@@ -6,7 +6,7 @@ use Rattle.std.proofs.lemmas.Bool.{eqb-true, eq-eqb}
 use Rattle.slab.specs.Slab.{Slab, get}
 use Rattle.rt_nodes.specs.Forest.{Forest, bare, node, one_if, first, times, Links}
 use Rattle.rt_nodes.specs.Changes.{is_link, joined, InRow, without}
-use Rattle.rt_nodes.specs.declared.linked.Slot.{Slot}
+use Rattle.rt_nodes.specs.declared.nodes.Slot.{Slot}
 use Rattle.rt_nodes.proofs.Felling.{one_of, links_kept}
 
 pub not_same : (m n : ℕ) → m ≢ n → nat_eq m n ≡ false

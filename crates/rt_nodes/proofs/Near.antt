@@ -11,8 +11,8 @@ use Rattle.rt_order.specs.laws.KeyOrder.{key_cmp_total, key_cmp-IsAntisymmetric}
 use Rattle.rt_nodes.specs.Forest.{Forest, bare, node, one_if, first, times, AllAfter, Links, IsRow, row_at}
 use Rattle.rt_nodes.specs.Walks.{IsPlace, spot_in}
 use Rattle.rt_nodes.specs.Changes.{InRow, Told}
-use Rattle.rt_nodes.specs.declared.row.Spot.TheVariants.{Here, Gap}
-use Rattle.rt_nodes.specs.declared.linked.Slot.{Slot}
+use Rattle.rt_nodes.specs.declared.nodes.SeekResult.TheVariants.{Here, Gap}
+use Rattle.rt_nodes.specs.declared.nodes.Slot.{Slot}
 use Rattle.rt_nodes.proofs.Reached.{same_some, row_at_is, below_row, behind_row, locate, either}
 use Rattle.rt_nodes.proofs.Joining.{slots_same, in_row_times}
 

@@ -11,14 +11,14 @@ use Rattle.rt_order.specs.KeyOrder.{key_cmp}
 use Rattle.rt_nodes.specs.Forest.{Forest, bare, node, one_if, first, size, times, Sound, IsRow, row_at}
 use Rattle.rt_nodes.specs.Walks.{IsPlace, spot_in, index_in, place_in}
 use Rattle.rt_nodes.specs.Changes.{InRow}
-use Rattle.rt_nodes.specs.declared.row.Spot.{Spot}
-use Rattle.rt_nodes.specs.declared.row.Spot.TheVariants.{Here, Gap}
-use Rattle.rt_nodes.specs.declared.linked.Slot.{Slot}
+use Rattle.rt_nodes.specs.declared.nodes.SeekResult.{SeekResult}
+use Rattle.rt_nodes.specs.declared.nodes.SeekResult.TheVariants.{Here, Gap}
+use Rattle.rt_nodes.specs.declared.nodes.Slot.{Slot}
 use Rattle.rt_nodes.proofs.Reached.{same_some, IsAt, at_place, not_nowhere, row_at-none, row_at_is, place_of, below_row, behind_row}
 use Rattle.rt_nodes.proofs.Joining.{in_row_times}
 
 -- the node of a spot
-abbrev pub here : Spot → Option ℕ
+abbrev pub here : SeekResult → Option ℕ
 here (Here n) = Some n
 here (Gap previous next) = None
 

@@ -13,8 +13,8 @@ use Rattle.rt_order.specs.laws.KeyOrder.{key_cmp_total}
 use Rattle.rt_nodes.specs.Forest.{Forest, bare, node, one_if, first, size, times, AllAfter, Sound, Links, IsRow}
 use Rattle.rt_nodes.specs.Walks.{spot_in}
 use Rattle.rt_nodes.specs.Changes.{is_link, linked_in, planted, Changed}
-use Rattle.rt_nodes.specs.declared.row.Spot.TheVariants.{Here, Gap}
-use Rattle.rt_nodes.specs.declared.linked.Slot.{Slot}
+use Rattle.rt_nodes.specs.declared.nodes.SeekResult.TheVariants.{Here, Gap}
+use Rattle.rt_nodes.specs.declared.nodes.Slot.{Slot}
 use Rattle.rt_nodes.proofs.Reached.{locate, not_nowhere}
 use Rattle.rt_nodes.proofs.Felling.{one_of, links_kept}
 use Rattle.rt_nodes.proofs.Joining.{LiesIn, link_out, lies_first, lies_more, not_same}

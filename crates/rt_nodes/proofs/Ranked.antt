@@ -7,7 +7,7 @@ use Rattle.slab.specs.Slab.{Slab, get, Updates}
 use Rattle.rt_nodes.specs.Forest.{one_if}
 use Rattle.rt_nodes.specs.inside.Ranks.{held, same_link, is_child, Added, IsAlike, IsRanked}
 use Rattle.rt_nodes.specs.Changes.{Same}
-use Rattle.rt_nodes.specs.declared.linked.Slot.{Slot}
+use Rattle.rt_nodes.specs.declared.nodes.Slot.{Slot}
 use Rattle.rt_nodes.specs.declared.children.Ranks.{Ranks}
 
 -- ---- a node that is there

@@ -7,7 +7,7 @@ use Rattle.slab.specs.Slab.{Slab, get, slab_len}
 use Rattle.rt_tree.specs.PathTree.{Key}
 use Rattle.rt_nodes.specs.Forest.{Forest, bare, node, one_if, first, size, times, AllAfter, Links, reached, row_at, IsRow}
 use Rattle.rt_nodes.specs.Walks.{IsPlace}
-use Rattle.rt_nodes.specs.declared.linked.Slot.{Slot}
+use Rattle.rt_nodes.specs.declared.nodes.Slot.{Slot}
 
 pub same_some : {A : Type 0} (x y : A) → Some x ≡ Some y → x ≡ y
 same_some x y e = ap (λ o. unwrap_or o x) e

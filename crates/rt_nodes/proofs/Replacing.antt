@@ -7,7 +7,7 @@ use Rattle.slab.specs.Slab.{Slab, get, slab_len}
 use Rattle.rt_tree.specs.PathTree.{Key}
 use Rattle.rt_nodes.specs.Forest.{Forest, bare, node, one_if, first, size, times, AllAfter, Sound, Links, IsRow}
 use Rattle.rt_nodes.specs.Changes.{InRow, below_of, with_below, with_content, Changed}
-use Rattle.rt_nodes.specs.declared.linked.Slot.{Slot}
+use Rattle.rt_nodes.specs.declared.nodes.Slot.{Slot}
 use Rattle.rt_nodes.proofs.Reached.{locate, not_nowhere}
 use Rattle.rt_nodes.proofs.Felling.{one_of, links_kept}
 use Rattle.rt_nodes.proofs.Joining.{in_row_times}

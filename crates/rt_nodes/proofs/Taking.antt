@@ -8,7 +8,7 @@ use Rattle.rt_tree.specs.PathTree.{Key}
 use Rattle.rt_nodes.specs.Forest.{Forest, bare, node, one_if, first, size, times, AllAfter, Sound, Links, IsRow, row_at}
 use Rattle.rt_nodes.specs.Walks.{IsPlace}
 use Rattle.rt_nodes.specs.Changes.{is_link, joined, InRow, without, below_of, Felled, Changed}
-use Rattle.rt_nodes.specs.declared.linked.Slot.{Slot}
+use Rattle.rt_nodes.specs.declared.nodes.Slot.{Slot}
 use Rattle.rt_nodes.proofs.Reached.{row_at_is, place_of, locate, not_nowhere}
 use Rattle.rt_nodes.proofs.Felling.{one_of, links_kept}
 use Rattle.rt_nodes.proofs.Joining.{LiesIn, link_out, lies_first, lies_more, slots_same, in_row_times, untouched, links_without}

@@ -6,7 +6,7 @@ use Rattle.rt_tree.specs.PathTree.{Key}
 use Rattle.rt_order.specs.KeyOrder.{key_cmp}
 use Rattle.slab.specs.Slab.{Slab, get, slab_len}
 use Rattle.rt_nodes.specs.Forest.{Forest, bare, node, size, times, IsRow, row_at}
-use Rattle.rt_nodes.specs.declared.linked.Slot.{Slot}
+use Rattle.rt_nodes.specs.declared.nodes.Slot.{Slot}
 
 -- whether a link leads to a node
 abbrev pub is_link : Option ℕ → ℕ → Bool

@@ -6,7 +6,7 @@ use Rattle.std.specs.declared.cmp.Ordering.TheVariants.{Less}
 use Rattle.slab.specs.Slab.{Slab, get, slab_len}
 use Rattle.rt_tree.specs.PathTree.{Key}
 use Rattle.rt_order.specs.KeyOrder.{key_cmp}
-use Rattle.rt_nodes.specs.declared.linked.Slot.{Slot}
+use Rattle.rt_nodes.specs.declared.nodes.Slot.{Slot}
 
 -- a row of nodes: the first one, by its number, with its key and what it carries, the row of its
 -- children, and the row behind it

@@ -3,7 +3,7 @@ use Rattle.std.specs.Prelude.{◌≡◌, ◌+◌, ℕ, Option, Some, None, refl}
 use Rattle.std.specs.Coded.{Coded, code_by, coded×, coded_ℕ, coded_list, coded_option}
 use Rattle.slab.specs.Slab.{Slab, get, slab_len, Updates}
 use Rattle.rt_tree.specs.PathTree.{Key}
-use Rattle.rt_nodes.specs.declared.linked.Slot.{Slot}
+use Rattle.rt_nodes.specs.declared.nodes.Slot.{Slot}
 
 -- a node is stored as the tuple of its fields
 abbrev pub slot_code : {X : Type 0} → Coded X → Coded (Slot X)

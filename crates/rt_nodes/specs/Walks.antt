@@ -5,9 +5,9 @@ use Rattle.slab.specs.Slab.{Slab}
 use Rattle.rt_tree.specs.PathTree.{Key, Path}
 use Rattle.rt_order.specs.KeyOrder.{key_cmp}
 use Rattle.rt_nodes.specs.Forest.{Forest, bare, node, IsRow, row_at}
-use Rattle.rt_nodes.specs.declared.linked.Slot.{Slot}
-use Rattle.rt_nodes.specs.declared.row.Spot.{Spot}
-use Rattle.rt_nodes.specs.declared.row.Spot.TheVariants.{Here, Gap}
+use Rattle.rt_nodes.specs.declared.nodes.Slot.{Slot}
+use Rattle.rt_nodes.specs.declared.nodes.SeekResult.{SeekResult}
+use Rattle.rt_nodes.specs.declared.nodes.SeekResult.TheVariants.{Here, Gap}
 
 module _ {X : Type 0} where
   -- there is a row from this node on
@@ -15,7 +15,7 @@ module _ {X : Type 0} where
   IsPlace s o = (parent : Option ℕ) × (previous : Option ℕ) × IsRow s o parent previous (row_at s o)
 
   -- where a key stands in a row, behind this sibling, or between which two it would
-  abbrev pub spot_in : Key → Option ℕ → Forest X → Spot
+  abbrev pub spot_in : Key → Option ℕ → Forest X → SeekResult
   spot_in k previous bare = Gap previous None
   spot_in k previous (node n key value below behind) = by_order (key_cmp k key) (Gap previous (Some n))
       (Here n) (spot_in k (Some n) behind)

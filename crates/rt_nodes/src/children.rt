@@ -5,7 +5,7 @@ ghost use Rattle.std.specs.Prelude.{IfSome, IfNone, OnOk, OnErr, Option, vec_len
 ghost use Rattle.rt_nodes.specs.Forest.{one_if};
 ghost use Rattle.rt_nodes.specs.inside.Often.{in_piece, in_pieces, in_row, in_nth};
 
-use crate::linked::Slot;
+use crate::nodes::Slot;
 use rt_order::PlacedRef;
 use rt_tree::Key;
 use slab::Slab;

@@ -6,8 +6,6 @@
 #![tactic(auto)]
 
 mod children;
-mod linked;
-mod row;
+mod nodes;
 
-pub use linked::{Linked, Slot};
-pub use row::{Siblings, Spot};
+pub use nodes::{Linked, SeekResult, Siblings, Slot};

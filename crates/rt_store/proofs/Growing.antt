@@ -17,7 +17,7 @@ use Rattle.rt_nodes.specs.Forest.{bare, node, AllAfter, IsRow, row_at}
 use Rattle.rt_nodes.specs.Nodes.{Inserted}
 use Rattle.rt_nodes.specs.Walks.{spot_in}
 use Rattle.rt_nodes.specs.Changes.{Same, Changed, Grown, with_content, linked_in, planted}
-use Rattle.rt_nodes.specs.declared.row.Spot.TheVariants.{Gap}
+use Rattle.rt_nodes.specs.declared.nodes.SeekResult.TheVariants.{Gap}
 use Rattle.rt_nodes.proofs.Reached.{row_at_is, row_at-none}
 use Rattle.rt_nodes.proofs.Planting.{spot_in-front, planted-front, planted_row, planted_changed}
 use Rattle.rt_nodes.proofs.Growing.{grown_none, changed_then, one_grown, one_is}

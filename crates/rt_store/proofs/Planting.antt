@@ -8,7 +8,7 @@ use Rattle.rt_order.specs.KeyOrder.{key_cmp}
 use Rattle.rt_nodes.specs.Forest.{bare, node, first, Sound}
 use Rattle.rt_nodes.specs.Walks.{spot_in}
 use Rattle.rt_nodes.specs.Changes.{planted}
-use Rattle.rt_nodes.specs.declared.row.Spot.TheVariants.{Here, Gap}
+use Rattle.rt_nodes.specs.declared.nodes.SeekResult.TheVariants.{Here, Gap}
 use Rattle.rt_store.specs.inside.Entries.{entries, tree_with, Filled, IsFull, Trees}
 use Rattle.rt_store.proofs.Paths.{differs}
 

@@ -16,7 +16,7 @@ use Rattle.rt_order.specs.laws.KeyOrder.{key_cmp-IsAntisymmetric}
 use Rattle.rt_nodes.specs.Forest.{bare, node, first, times, IsRow, row_at}
 use Rattle.rt_nodes.specs.Walks.{spot_in, index_in}
 use Rattle.rt_nodes.specs.Changes.{InRow, with_below, with_content, linked_in, Felled, Changed, Same, Grown}
-use Rattle.rt_nodes.specs.declared.row.Spot.TheVariants.{Here, Gap}
+use Rattle.rt_nodes.specs.declared.nodes.SeekResult.TheVariants.{Here, Gap}
 use Rattle.rt_nodes.proofs.Reached.{row_at_is, row_at-none}
 use Rattle.rt_nodes.proofs.Paths.{here, index_spot, found_in_row, other_number}
 use Rattle.rt_nodes.proofs.Joining.{slots_same}

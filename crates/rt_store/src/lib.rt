@@ -11,7 +11,6 @@
 //! (`specs/Stored.antt`).
 #![tactic(auto)]
 
-mod clear;
 mod error;
 mod nodes;
 mod store;

@@ -13,7 +13,7 @@ ghost use Rattle.rt_tree.specs.Allowed.{IsAllowed};
 ghost use Rattle.rt_nodes.specs.Walks.{IsPlace};
 
 use rt_map::OrdMap;
-use rt_nodes::{Linked, Siblings, Spot};
+use rt_nodes::{Linked, SeekResult, Siblings};
 use rt_order::key_cmp;
 use rt_tree::{Key, Leaf, Tree};
 use std::alloc::{AllocError, Global};
@@ -200,8 +200,8 @@ pub(crate) fn put_row(
     ensures err { OnErr result (Same nodes.old nodes.new) }
 {
     let index = match nodes.seek(row, key) {
-        Spot::Here(index) => index,
-        Spot::Gap(previous, next) => {
+        SeekResult::Here(index) => index,
+        SeekResult::Gap(previous, next) => {
             let index = grow(nodes, alloc, row.parent, key, rest, tree)?;
             nodes.link(previous, index, next);
             return match previous {

@@ -13,7 +13,7 @@ use Rattle.rt_view.specs.declared.news.Told.{Told}
 use Rattle.rt_view.specs.Changes.{placed_changes, removals}
 use Rattle.rt_view.specs.inside.Given.{change_of, is_given, row_change}
 use Rattle.rt_view.specs.inside.Windows.{Entries, before, value_at}
-use Rattle.rt_view.specs.inside.Kept.{NotesAll, changes_to, entries_shown, gone_at, noted_in, removed_of, rows_in_tree}
+use Rattle.rt_view.specs.inside.ViewIndex.{NotesAll, changes_to, entries_shown, gone_at, noted_in, removed_of, rows_in_tree}
 use Rattle.rt_view.specs.inside.Alone.{told_alone, told_there}
 use Rattle.rt_view.specs.inside.Telling.{given_of, gone_too, told_in, told_too}
 use Rattle.rt_view.proofs.Listed.{IsListed, listed-children, value_at-children}

@@ -16,8 +16,8 @@ use Rattle.rt_query.specs.declared.query.Limit.{Limit}
 use Rattle.rt_query.specs.declared.query.Limit.TheVariants.{First, Last}
 use Rattle.rt_query.specs.Queries.{Query}
 use Rattle.rt_query.specs.Select.{sorted_by}
-use Rattle.rt_view.specs.declared.window.Window.{Window}
-use Rattle.rt_view.specs.inside.Kept.{IsWindowOf, brought_in, in_order, taken_out, wholly}
+use Rattle.rt_view.specs.declared.window.OrderedChildren.{OrderedChildren}
+use Rattle.rt_view.specs.inside.ViewIndex.{IsWindowOf, brought_in, in_order, taken_out, wholly}
 use Rattle.rt_view.specs.inside.Ranged.{Spread, all_known, inner, inside}
 use Rattle.rt_view.specs.inside.Telling.{left_by, takes_place}
 use Rattle.rt_view.specs.inside.Windows.{Entries, IsWindow, all_of, is_there, joined, known_in, put_inside, rest_from, rest_in, shown_from, shown_in, without}
@@ -43,7 +43,7 @@ inside_both r [] ds h g = g
 inside_both r (x ∷ es) ds h g = (h.0, inside_both r es ds h.1 g)
 
 -- what a window has in its range
-pub all_inside : (w : Window) → Inside w.children.range (all_of w)
+pub all_inside : (w : OrderedChildren) → Inside w.children.range (all_of w)
 all_inside w = at w.limit
   where
     at : (l : Option Limit) → Inside w.children.range (joined l (shown_from l (inner w.children)) (rest_from l (inner w.children)))
@@ -68,7 +68,7 @@ module _ (r : Range) (e : Entry) (beside : has r e ≡ false) where
   there-beside (x ∷ es) h = ap (λ b. is_some (cond b (Some x.1) (lookup (is_at (entry_cmp e)) es))) (other_entry x.0 h.0) ∙ there-beside es h.1
 
 -- what a window shows
-pub there_beside : (w : Window) (e : Entry) → has w.children.range e ≡ false → is_there e (shown_in w) ≡ false
+pub there_beside : (w : OrderedChildren) (e : Entry) → has w.children.range e ≡ false → is_there e (shown_in w) ≡ false
 there_beside w e beside = at w.limit
   where
     at : (l : Option Limit) → is_there e (shown_from l (inner w.children)) ≡ false
@@ -80,7 +80,7 @@ pub inside_is : (r : Range) (e : Entry) (v : PathTree) (es : Entries) → has r 
 inside_is r e v es h = sym (ap (λ b. cond b (map_of.put entry_cmp e v es) es) h)
 
 -- taken out by its key, where another one doesn't take its place
-pub left_taken : (q : Query) (k : Key) (o : Option PathTree) (t new : PathTree) (w : Window) → w.children.range ≡ q.range → o ≡ Some t → takes_place q.index t new ≡ false
+pub left_taken : (q : Query) (k : Key) (o : Option PathTree) (t new : PathTree) (w : OrderedChildren) → w.children.range ≡ q.range → o ≡ Some t → takes_place q.index t new ≡ false
     → without (entry q.index (k, t)) (all_of w) ≡ left_by q k o new (all_of w)
 left_taken q k o t new w range is takes =
     let e : Entry = entry q.index (k, t) in
@@ -120,19 +120,19 @@ touched_known q t u k v o a b c h is left brought e =
 
 -- ---- the window after a child was taken out and another one brought in
 
-pub record TakenOut (q : Query) (k : Key) (o : Option PathTree) (v : PathTree) (a b : Window) : Type 0 where
+pub record TakenOut (q : Query) (k : Key) (o : Option PathTree) (v : PathTree) (a b : OrderedChildren) : Type 0 where
   pub limit : b.limit ≡ a.limit
   pub range : b.children.range ≡ a.children.range
   pub known : known_in b ≡ left_by (wholly q) k o v (known_in a)
   pub cut : IsWindow a.limit (shown_in b) (rest_in b) (left_by q k o v (joined a.limit (shown_in a) (rest_in a)))
 
-pub record BroughtIn (q : Query) (k : Key) (v : PathTree) (b c : Window) : Type 0 where
+pub record BroughtIn (q : Query) (k : Key) (v : PathTree) (b c : OrderedChildren) : Type 0 where
   pub limit : c.limit ≡ b.limit
   pub range : c.children.range ≡ b.children.range
   pub known : known_in c ≡ brought_in (wholly q) k v (known_in b)
   pub cut : IsWindow b.limit (shown_in c) (rest_in c) (brought_in q k v (joined b.limit (shown_in b) (rest_in b)))
 
-pub touched_window : (q : Query) (t u : PathTree) (k : Key) (v : PathTree) (o : Option PathTree) (a b c : Window) → IsWindowOf q t a → o ≡ child_of (children_of t) k
+pub touched_window : (q : Query) (t u : PathTree) (k : Key) (v : PathTree) (o : Option PathTree) (a b c : OrderedChildren) → IsWindowOf q t a → o ≡ child_of (children_of t) k
     → TakenOut q k o v a b → BroughtIn q k v b c → u ≡ put t (k ∷ []) v → IsWindowOf q u c
 touched_window q t u k v o a b c h is left brought e =
     let whole_a : joined a.limit (shown_in a) (rest_in a) ≡ in_order q (children_of t) = ap (λ l. joined l (shown_in a) (rest_in a)) h.limit ∙ h.cut.whole in

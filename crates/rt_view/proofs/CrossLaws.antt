@@ -18,9 +18,9 @@ use Rattle.rt_query.specs.Queries.{Query}
 use Rattle.rt_query.specs.declared.query.Limit.{Limit}
 use Rattle.rt_query.specs.declared.query.Limit.TheVariants.{First, Last}
 use Rattle.rt_view.specs.declared.window.Turned.{Turned}
-use Rattle.rt_view.specs.declared.window.Window.{Window}
+use Rattle.rt_view.specs.declared.window.OrderedChildren.{OrderedChildren}
 use Rattle.rt_view.specs.inside.Windows.{Entries, IsWindow, is_from_first, is_there, is_to_last, joined, value_at, without, rest_in, shown_in}
-use Rattle.rt_view.specs.inside.Kept.{IsWindowOf, in_order, taken_out}
+use Rattle.rt_view.specs.inside.ViewIndex.{IsWindowOf, in_order, taken_out}
 use Rattle.rt_view.specs.inside.Telling.{left_by, takes_place}
 use Rattle.rt_view.specs.inside.Turns.{Comes, Leaves, Refilled, Refills, Spilled, SpilledBy, Spills, Stands, set_at}
 use Rattle.rt_view.proofs.Listed.{IsListed, Once, passing, at_entry, find-value_at, apart_keys, listed-filter, value_at-filter, listed-puts, value_at-puts_all, value_at-in_order, listed-in_order, listed-shown, value_at-cons, none_head, Own, own-left, once-left}
@@ -189,7 +189,7 @@ passing_some p index k (Some v) x h =
     ] refl h
 
 -- what is shown is known, and in the range
-pub shown_known : (q : Query) (t : PathTree) (w : Window) (k : Key) (x : PathTree) → IsWindowOf q t w → value_at (shown_in w) k ≡ Some x → (child_of (children_of t) k ≡ Some x) × (has q.range (entry q.index (k, x)) ≡ true)
+pub shown_known : (q : Query) (t : PathTree) (w : OrderedChildren) (k : Key) (x : PathTree) → IsWindowOf q t w → value_at (shown_in w) k ≡ Some x → (child_of (children_of t) k ≡ Some x) × (has q.range (entry q.index (k, x)) ≡ true)
 shown_known q t w k x h is =
     let up = (parts_rise q.limit (shown_in w) (rest_in w) _ h.cut).0 in
     let shown = listed-shown q.index q.limit (shown_in w) (rest_in w) _ h.cut (listed-in_order q t) up in
@@ -258,7 +258,7 @@ parted index limit s r all w h =
 pub leaves_still : (q : Query) (k : Key) (o : Option PathTree) (new : PathTree) (es : Entries) → Stands q k new es → Leaves q k o new false None es es
 leaves_still q k o new es stands = record { own = refl; stands = stands; apart = tt; others = λ j e. refl }
 
-module _ (q : Query) (u : PathTree) (w : Window) (k : Key) (h : IsWindowOf q u w) where
+module _ (q : Query) (u : PathTree) (w : OrderedChildren) (k : Key) (h : IsWindowOf q u w) where
   -- no child stands at the key
   pub leaves_none : (new : PathTree) → child_of (children_of u) k ≡ None → Leaves q k None new false None (shown_in w) (shown_in w)
   leaves_none new none = leaves_still q k None new (shown_in w) (λ x g. cc (none, (shown_known q u w k x h g).0))
@@ -348,7 +348,7 @@ module _ (q : Query) (u : PathTree) (w : Window) (k : Key) (h : IsWindowOf q u w
 -- ---- the window without the child
 
 -- what is shown once a child was taken out is listed
-pub listed_left : (q : Query) (t : PathTree) (k : Key) (o : Option PathTree) (v : PathTree) (a b : Window) → IsWindowOf q t a
+pub listed_left : (q : Query) (t : PathTree) (k : Key) (o : Option PathTree) (v : PathTree) (a b : OrderedChildren) → IsWindowOf q t a
     → IsWindow a.limit (shown_in b) (rest_in b) (left_by q k o v (joined a.limit (shown_in a) (rest_in a))) → IsListed q.index (shown_in b)
 listed_left q t k o v a b h cut =
     let whole : joined a.limit (shown_in a) (rest_in a) ≡ in_order q (children_of t) = ap (λ l. joined l (shown_in a) (rest_in a)) h.limit ∙ h.cut.whole in

@@ -15,10 +15,10 @@ use Rattle.rt_query.specs.Queries.{Query, is_filtered}
 use Rattle.rt_query.specs.Rows.{HasDistinctKeys, row_at}
 use Rattle.rt_query.specs.Select.{as_children, row_of, rows_of, select, tree_by, tree_of}
 use Rattle.rt_query.specs.laws.Select.{object-parts}
-use Rattle.rt_view.specs.declared.window.Window.{Window}
+use Rattle.rt_view.specs.declared.window.OrderedChildren.{OrderedChildren}
 use Rattle.rt_view.specs.Views.{with_named}
 use Rattle.rt_view.specs.inside.Differences.{come, differing, emptied, gone, is_come, is_gone, stays}
-use Rattle.rt_view.specs.inside.Kept.{IsWindowOf}
+use Rattle.rt_view.specs.inside.ViewIndex.{IsWindowOf}
 use Rattle.rt_view.specs.inside.Windows.{Entries, shown_in}
 use Rattle.rt_view.proofs.CrossLaws.{shown_known}
 use Rattle.rt_view.proofs.Listed.{EachOnce, each_once, listed-window}
@@ -236,12 +236,12 @@ once_rows (r ∷ rs) once h =
     ] refl
 
 -- what a window shows fits below a key
-pub rows_fit : (q : Query) (t : PathTree) (w : Window) → IsAllowed t → IsWindowOf q t w → All (λ (r : Row). levels r.value ≤ 32) (map row_of (shown_in w))
+pub rows_fit : (q : Query) (t : PathTree) (w : OrderedChildren) → IsAllowed t → IsWindowOf q t w → All (λ (r : Row). levels r.value ≤ 32) (map row_of (shown_in w))
 rows_fit q t w allowed kept =
     once_rows (map row_of (shown_in w)) (listed-window q t w kept).once (λ k v e. (child_fits t k v allowed (shown_known q t w k v kept e).0).1)
 
 -- the object of what a window shows, where its query is filtered
-pub object_shown : (q : Query) (t : PathTree) (w : Window) → is_filtered q ≡ true → IsWindowOf q t w → object (as_children (map row_of (shown_in w))) ≡ tree_of (select q t)
+pub object_shown : (q : Query) (t : PathTree) (w : OrderedChildren) → is_filtered q ≡ true → IsWindowOf q t w → object (as_children (map row_of (shown_in w))) ≡ tree_of (select q t)
 object_shown q t w filtered kept =
     ap (λ (es : Entries). object (as_children (map row_of es))) (sym kept.cut.cut)
     ∙ sym (ap (λ l. tree_by l (rows_of q (children_of t))) (filtered_leaf q t filtered))

@@ -20,7 +20,7 @@ use Rattle.rt_order.specs.declared.cut.Range.{Range}
 use Rattle.rt_order.specs.Entries.{Entry, entry_cmp}
 use Rattle.rt_view.proofs.WindowLaws.{same_entry}
 use Rattle.rt_view.specs.declared.children.Child.{Child}
-use Rattle.rt_view.specs.inside.Known.{AllMarked, IsMarked, Linked, children_in, halves_of, key_above, last_below, last_child}
+use Rattle.rt_view.specs.inside.ChildChain.{AllMarked, IsMarked, Linked, children_in, halves_of, key_above, last_below, last_child}
 use Rattle.rt_view.specs.inside.Windows.{Entries, GoesAhead, GoesBack, Puts, half_at, half_in, is_from_first, is_there, is_to_last}
 
 pub children-append : (es ds : Linked) → children_in (es ++ ds) ≡ children_in es ++ children_in ds

@@ -8,7 +8,7 @@ use Rattle.rt_order.specs.Entries.{Entry}
 use Rattle.rt_query.specs.declared.row.Row.{Row}
 use Rattle.rt_query.specs.Select.{row_of}
 use Rattle.rt_view.specs.declared.children.Child.{Child}
-use Rattle.rt_view.specs.inside.Known.{Backs, Linked, Walks, children_in, halves_of, near_cut}
+use Rattle.rt_view.specs.inside.ChildChain.{Backs, Linked, Walks, children_in, halves_of, near_cut}
 use Rattle.rt_view.specs.inside.Windows.{half_in}
 use Rattle.rt_view.proofs.KnownLaws.{children-append, children-length}
 

@@ -23,9 +23,9 @@ use Rattle.rt_query.specs.Queries.{Query}
 use Rattle.rt_query.specs.Select.{limited, sorted_by, row_of}
 use Rattle.rt_view.specs.inside.Windows.{Entries, IsWindow, joined, shown_in, value_at}
 pub use Rattle.rt_view.specs.inside.Windows.{IsListed, Once, Own}
-use Rattle.rt_view.specs.inside.Kept.{IsWindowOf, entries_shown, in_order}
+use Rattle.rt_view.specs.inside.ViewIndex.{IsWindowOf, entries_shown, in_order}
 use Rattle.rt_view.proofs.ReplayLaws.{row_at-cons}
-use Rattle.rt_view.specs.declared.window.Window.{Window}
+use Rattle.rt_view.specs.declared.window.OrderedChildren.{OrderedChildren}
 use Rattle.rt_view.proofs.WindowLaws.{parts_rise, value_at-skip, value_at-puts, same_entry}
 
 abbrev puts : Entry → PathTree → Entries → Entries
@@ -303,5 +303,5 @@ listed-entries q t =
     let cut : IsWindow q.limit (entries_shown q t) (left_out q.limit all) all = record { rises = listed.rises; whole = both_parts q.limit all; cut = refl } in
     (listed-shown q.index q.limit _ _ all cut listed (parts_rise q.limit _ _ all cut).0).0
 
-pub listed-window : (q : Query) (t : PathTree) (w : Window) → IsWindowOf q t w → IsListed q.index (shown_in w)
+pub listed-window : (q : Query) (t : PathTree) (w : OrderedChildren) → IsWindowOf q t w → IsListed q.index (shown_in w)
 listed-window q t w h = subst (IsListed q.index) h.cut.cut (listed-entries q t)

@@ -19,7 +19,7 @@ use Rattle.rt_query.specs.declared.query.Limit.{Limit}
 use Rattle.rt_query.specs.declared.query.Limit.TheVariants.{First, Last}
 use Rattle.rt_view.specs.declared.children.Child.{Child}
 use Rattle.rt_view.specs.inside.Halves.{Halved}
-use Rattle.rt_view.specs.inside.Known.{IsMarked, Linked, children_in, halves_of, marked}
+use Rattle.rt_view.specs.inside.ChildChain.{IsMarked, Linked, children_in, halves_of, marked}
 use Rattle.rt_view.specs.inside.Ranged.{IsSpread, between, cut_at, inside, outside}
 use Rattle.rt_view.specs.inside.Windows.{Entries, IsWindow, rest_from, shown_from}
 use Rattle.rt_view.proofs.InsideLaws.{inside-append, passed, sorted_more}

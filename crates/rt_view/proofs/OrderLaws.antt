@@ -19,10 +19,10 @@ use Rattle.rt_order.specs.Values.{Null}
 use Rattle.rt_query.specs.Queries.{Query}
 use Rattle.rt_query.specs.Select.{sorted_by}
 use Rattle.rt_view.specs.declared.news.Seen.{Seen}
-use Rattle.rt_view.specs.declared.window.Window.{Window}
+use Rattle.rt_view.specs.declared.window.OrderedChildren.{OrderedChildren}
 use Rattle.rt_view.specs.Views.{with_named}
 use Rattle.rt_view.specs.inside.Windows.{Entries, before, last_key, value_at}
-use Rattle.rt_view.specs.inside.Kept.{AreWords, CanAsk, ComesToWord, IsInOrder, IsOrdered, NameWords, entries_of, entries_shown, ordered_in, rows_in_tree}
+use Rattle.rt_view.specs.inside.ViewIndex.{AreWords, CanAsk, ComesToWord, IsInOrder, IsOrdered, NameWords, entries_of, entries_shown, ordered_in, rows_in_tree}
 use Rattle.rt_view.specs.inside.Telling.{AllSeen, AreSeen}
 use Rattle.rt_view.proofs.AloneLaws.{plain_value}
 use Rattle.rt_view.proofs.CrossLaws.{shown_known}
@@ -95,7 +95,7 @@ ordered_shown q t h =
     sym (in_tree (children_of t) (children_sorted t) h.words) ∙ ap (λ x. sorted_by x (children_of t)) (sym h.index) ∙ plain_rows q t h.plain
 
 -- the children in the query's order are those that are shown
-pub shown_ordered : (q : Query) (t : PathTree) (w : Option Window) → IsInOrder q t w → ordered_in t w ≡ entries_shown q t
+pub shown_ordered : (q : Query) (t : PathTree) (w : Option OrderedChildren) → IsInOrder q t w → ordered_in t w ≡ entries_shown q t
 shown_ordered q t None h = ordered_shown q t h
 shown_ordered q t (Some w) h = sym h.cut.cut
 
@@ -128,7 +128,7 @@ before_words k cs w ws =
     ap last_in (below_words k cs w ws) ∙ last_key-keys (filter (λ x. not (is_le (entry_cmp (Null, k) x.0))) (entries_of index.Key cs))
 
 -- of what is shown the child before can be asked
-pub can_ask : (q : Query) (t : PathTree) (w : Option Window) → IsInOrder q t w → (k : Key) (v : PathTree) → value_at (entries_shown q t) k ≡ Some v → CanAsk t w (entry q.index (k, v))
+pub can_ask : (q : Query) (t : PathTree) (w : Option OrderedChildren) → IsInOrder q t w → (k : Key) (v : PathTree) → value_at (entries_shown q t) k ≡ Some v → CanAsk t w (entry q.index (k, v))
 can_ask q t None h k v is = (
   ap (λ x. sort_value x v) h.index,
   word_at (children_of t) k v h.words (sym (plain_value q t k h.plain) ∙ is),

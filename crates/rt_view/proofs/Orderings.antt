@@ -20,7 +20,7 @@ use Rattle.rt_order.specs.Entries.{Entry, entry, entry_cmp}
 use Rattle.rt_order.specs.laws.EntryOrder.{entry_cmp_total, entry_cmp-IsAntisymmetric}
 use Rattle.rt_query.specs.Select.{sorted_by}
 use Rattle.rt_view.specs.inside.Windows.{Entries, IsApart, IsOrdering}
-use Rattle.rt_view.specs.inside.Kept.{entries_of}
+use Rattle.rt_view.specs.inside.ViewIndex.{entries_of}
 use Rattle.rt_view.proofs.Listed.{EachOnce, apart_keys, each_once, listed-children}
 use Rattle.rt_view.proofs.WindowLaws.{same_entry}
 

@@ -21,7 +21,7 @@ use Rattle.rt_order.specs.Entries.{Entry, entry_cmp}
 use Rattle.rt_order.specs.laws.EntryOrder.{entry_cmp_total, entry_cmp-IsAntisymmetric}
 use Rattle.rt_order.proofs.CutLaws.{above_stays_after}
 use Rattle.rt_view.specs.inside.Halves.{Halved}
-use Rattle.rt_view.specs.inside.Known.{key_above, last_below, last_child, near_cut}
+use Rattle.rt_view.specs.inside.ChildChain.{key_above, last_below, last_child, near_cut}
 use Rattle.rt_view.specs.inside.Ranged.{IsSpread, between, inside, outside}
 use Rattle.rt_view.specs.inside.Windows.{Entries, GoesAhead, GoesBack, Puts, before, half_at, half_in, is_from_first, is_there, is_to_last, last_key}
 use Rattle.rt_view.proofs.InsideLaws.{inside-append, inside-outside, inside-puts, inside-puts-beside, inside-removes-beside, inside-there, outside-puts-beside, outside-removes-beside, passed, removed, sorted_more}

@@ -19,9 +19,9 @@ use Rattle.rt_order.specs.declared.index.Index.{Index}
 use Rattle.rt_query.specs.Queries.{Query}
 use Rattle.rt_view.specs.declared.news.Seen.{Seen}
 use Rattle.rt_view.specs.declared.window.Turned.{Turned}
-use Rattle.rt_view.specs.declared.window.Window.{Window}
+use Rattle.rt_view.specs.declared.window.OrderedChildren.{OrderedChildren}
 use Rattle.rt_view.specs.inside.Windows.{Entries, value_at}
-use Rattle.rt_view.specs.inside.Kept.{IsWindowOf, entries_shown, is_noted, stands_in}
+use Rattle.rt_view.specs.inside.ViewIndex.{IsWindowOf, entries_shown, is_noted, stands_in}
 use Rattle.rt_view.specs.inside.Turns.{Comes, Leaves, Values, came_in, set_at, shown_if, went_out}
 use Rattle.rt_view.specs.inside.Telling.{AllSeen, AreSeen, IsFit, IsKeptBy, IsNew, IsSeen, IsSeenOf, KeepsSeen, keys_in, seen_at, seen_in, seen_out, seen_too, seen_turned}
 use Rattle.rt_view.proofs.CrossLaws.{shown_known}
@@ -221,7 +221,7 @@ pub all_new : (t : PathTree) (shown : Entries) (seen : List Seen) → All (IsSee
 all_new t shown seen h = All-weaker (IsSeen t shown) (IsNew shown) (λ s e. e.1) seen h
 
 -- what is shown fits
-pub all_fit : (q : Query) (t u : PathTree) (w : Window) (seen : List Seen) → IsAllowed u → IsWindowOf q u w → All (IsSeen t (entries_shown q u)) seen → All IsFit seen
+pub all_fit : (q : Query) (t u : PathTree) (w : OrderedChildren) (seen : List Seen) → IsAllowed u → IsWindowOf q u w → All (IsSeen t (entries_shown q u)) seen → All IsFit seen
 all_fit q t u w seen allowed kept h = All-weaker (IsSeen t (entries_shown q u)) IsFit (λ s e. fit s.key s.new e.1) seen h
   where
     fit : (k : Key) (o : Option PathTree) → o ≡ value_at (entries_shown q u) k → IfSome o (λ x. (is_null x ≡ false) × (levels x ≤ 32))

@@ -24,7 +24,7 @@ use Rattle.rt_view.specs.declared.kinds.Kind.TheVariants as kind
 use Rattle.rt_view.specs.Changes.{placed, removals, placed_changes}
 use Rattle.rt_view.specs.inside.Given.{change_of, is_given}
 use Rattle.rt_view.specs.inside.Windows.{Entries, value_at, before, last_key}
-use Rattle.rt_view.specs.inside.Kept.{is_noted, Notes, noted_in, gone_at, gone_from, removed_of, given_in, rows_in_tree}
+use Rattle.rt_view.specs.inside.ViewIndex.{is_noted, Notes, noted_in, gone_at, gone_from, removed_of, given_in, rows_in_tree}
 use Rattle.rt_view.specs.declared.news.Seen.{Seen}
 use Rattle.rt_view.specs.declared.news.Told.{Told}
 use Rattle.rt_view.specs.inside.Telling.{given_of, gone_too, keys_in, told_in, told_of, told_too}

@@ -17,7 +17,7 @@ use Rattle.rt_order.specs.laws.EntryOrder.{entry_cmp_total, value_cmp-IsAntisymm
 use Rattle.rt_order.specs.Values.{value_cmp}
 use Rattle.rt_query.specs.Queries.{Query}
 use Rattle.rt_view.specs.inside.Windows.{Entries, value_at, without}
-use Rattle.rt_view.specs.inside.Kept.{in_order, put_in, brought_in, taken_out, is_noted}
+use Rattle.rt_view.specs.inside.ViewIndex.{in_order, put_in, brought_in, taken_out, is_noted}
 use Rattle.rt_view.proofs.Listed.{IsListed, same_listed, passing, apart_keys, listed-filter, value_at-filter, listed-puts, value_at-puts_all, listed-in_order, value_at-in_order}
 use Rattle.rt_view.specs.inside.Telling.{left_by, takes_place}
 use Rattle.rt_view.proofs.WindowLaws.{puts-without}

@@ -19,12 +19,12 @@ use Rattle.rt_query.specs.laws.Select.{object-parts, object-sorted_by, select-wh
 use Rattle.rt_query.proofs.ShownLaws.{child_of-as_children, row_at-tree}
 use Rattle.rt_query.proofs.RowLaws.{shown_filtered, shown_whole}
 use Rattle.rt_view.specs.declared.change.Change.{Change}
-use Rattle.rt_view.specs.declared.view.Kept.{Kept}
-use Rattle.rt_view.specs.declared.view.Kept.TheVariants.{Ordered, Plain, Filtered}
+use Rattle.rt_view.specs.declared.view.ViewIndex.{ViewIndex}
+use Rattle.rt_view.specs.declared.view.ViewIndex.TheVariants.{Ordered, Plain, Filtered}
 use Rattle.rt_view.specs.declared.change.Change.TheVariants.{Value}
 use Rattle.rt_view.specs.Changes.{row_changes, changes, replay, by_keys}
 use Rattle.rt_view.specs.inside.Windows.{Entries, value_at}
-use Rattle.rt_view.specs.inside.Kept.{IsInOrder, IsKept, Notes, SetsChild, SetsNoted, changes_to, entries_shown, is_noted, leaf_in, rows_in_tree, shown_by, tree_in, window_in}
+use Rattle.rt_view.specs.inside.ViewIndex.{IsInOrder, IsKept, Notes, SetsChild, SetsNoted, changes_to, entries_shown, is_noted, leaf_in, rows_in_tree, shown_by, tree_in, window_in}
 use Rattle.rt_view.proofs.ReplayLaws.{row_at-by_keys, replay-row_changes}
 use Rattle.rt_view.proofs.TurnLaws.{row_changes-same}
 use Rattle.rt_view.proofs.Listed.{IsListed, same_listed, listed-children, value_at-children, listed-entries}
@@ -171,13 +171,13 @@ plain_same q known tree cs leaf plain is old = at cs is
         ap (λ b. b && option_eq leaf_eq leaf (leaf_of known)) (not_empty d ds) ∙ sym (other_view q known tree (λ f. some_list d ds (e ∙ f)))
 
 -- what is kept as a tree of its own, or the known one, is what is shown
-pub kept_tree : (q : Query) (t : PathTree) (kept : Kept) → IsKept q t kept → tree_in t kept ≡ tree_of (select q t)
+pub kept_tree : (q : Query) (t : PathTree) (kept : ViewIndex) → IsKept q t kept → tree_in t kept ≡ tree_of (select q t)
 kept_tree q t Ordered h = sym (select-whole q t h.plain)
 kept_tree q t (Plain w) h = sym (select-whole q t h.1)
 kept_tree q t (Filtered w u) h = h.2
 
 -- and in the query's order
-pub kept_order : (q : Query) (t : PathTree) (kept : Kept) → IsKept q t kept → IsInOrder q t (window_in kept)
+pub kept_order : (q : Query) (t : PathTree) (kept : ViewIndex) → IsKept q t kept → IsInOrder q t (window_in kept)
 kept_order q t Ordered h = h
 kept_order q t (Plain w) h = h.0
 kept_order q t (Filtered w u) h = h.0

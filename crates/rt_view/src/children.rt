@@ -11,8 +11,8 @@ ghost use Rattle.rt_order.specs.Cuts.{has};
 ghost use Rattle.rt_order.specs.Entries.{Entry, entry_cmp};
 ghost use Rattle.rt_query.specs.Select.{row_of};
 ghost use Rattle.rt_view.specs.declared.children.Child.{Child as LinkedChild};
-ghost use Rattle.rt_view.specs.inside.Known.{HasNames, Linked, children_in, key_above, last_below, marked};
-ghost use Rattle.rt_view.specs.inside.Known.{near_cut};
+ghost use Rattle.rt_view.specs.inside.ChildChain.{HasNames, Linked, children_in, key_above, last_below, marked};
+ghost use Rattle.rt_view.specs.inside.ChildChain.{near_cut};
 ghost use Rattle.rt_view.specs.inside.Windows.{GoesAhead, GoesBack, Puts, half_at, half_in, is_there};
 ghost use Rattle.rt_view.specs.inside.Windows.{IsWindow, before, rest_from, shown_from};
 ghost use Rattle.rt_view.specs.inside.Ranged.{all_known, cut_at, inner, inside, outside};
@@ -45,21 +45,21 @@ impl Drop for Child {
 
 // Children linked in the order of their entries, with a cut between two of them, or at an end. A child
 // that crosses the cut costs a link, and no search. Each knows whether it lies in a range.
-pub struct Known {
+pub struct ChildChain {
     from: Range,
     chain: Chain<Position, Child>,
 }
 
-impl Drop for Known {
+impl Drop for ChildChain {
     fn drop(self) {
-        let Known { from: _, chain: _ } = self;
+        let ChildChain { from: _, chain: _ } = self;
     }
 }
 
-impl Model for Known {
-    ghost use Rattle.rt_view.specs.inside.Known.{AllMarked, Known, halves_of};
+impl Model for ChildChain {
+    ghost use Rattle.rt_view.specs.inside.ChildChain.{AllMarked, ChildChain, halves_of};
 
-    ghost Value = { Known };
+    ghost Value = { ChildChain };
 
     ghost view = { λ a. record { from = a.from; halves = halves_of a.chain } };
 
@@ -160,7 +160,7 @@ fn list_children(
     Ok(list)
 }
 
-impl Known {
+impl ChildChain {
     // These children, of which so many stand in front of the cut, and the range whose lower cut
     // they know.
     pub fn of(
@@ -168,7 +168,7 @@ impl Known {
         from: Range,
         children: Vec<(Position, Tree)>,
         front: usize,
-    ) -> Result<Known, AllocError>
+    ) -> Result<ChildChain, AllocError>
         requires { T (is_sorted entry_cmp children.items) }
         ensures from { IfOk result (λ known. known.from ≡ from) }
         ensures halves { IfOk result (λ known. known.halves
@@ -176,7 +176,7 @@ impl Known {
     {
         let children = list_children(alloc, &from, children)?;
         let chain = Chain::from_sorted(alloc, children, front)?;
-        Ok(Known { from, chain })
+        Ok(ChildChain { from, chain })
     }
 
     // Whether an entry lies above the lower cut.
@@ -304,7 +304,7 @@ impl Known {
 // and those above it. A cut lies between two of those in the range, or at an end of it.
 pub struct Ranged {
     to: Range,
-    children: Known,
+    children: ChildChain,
     low: usize,
     high: usize,
 }
@@ -385,7 +385,7 @@ impl Ranged {
         };
         let (low, high) = beside(&children, &from, &to);
         let front = low + cut_at(limit, children.len() - low - high);
-        let children = Known::of(alloc, from, children, front)?;
+        let children = ChildChain::of(alloc, from, children, front)?;
         Ok(Ranged {
             to,
             children,

@@ -7,9 +7,9 @@ ghost use Rattle.std.specs.Map.{values_of};
 ghost use Rattle.rt_tree.specs.PathTree.{PathTree, key_cmp, non_null, leaf_of};
 ghost use Rattle.rt_order.specs.Entries.{entry, entry_cmp};
 ghost use Rattle.rt_view.specs.inside.Windows.{before, Entries};
-ghost use Rattle.rt_view.specs.inside.Kept.{CanAsk, IsInOrder, entries_shown, gone_at, gone_from, noted_in};
-ghost use Rattle.rt_view.specs.inside.Kept.{ordered_in, rows_in_tree, IsWindowOf, SetsChild, SetsNoted};
-ghost use Rattle.rt_view.specs.inside.Kept.{changes_to, removed_of, shown_by};
+ghost use Rattle.rt_view.specs.inside.ViewIndex.{CanAsk, IsInOrder, entries_shown, gone_at, gone_from, noted_in};
+ghost use Rattle.rt_view.specs.inside.ViewIndex.{ordered_in, rows_in_tree, IsWindowOf, SetsChild, SetsNoted};
+ghost use Rattle.rt_view.specs.inside.ViewIndex.{changes_to, removed_of, shown_by};
 ghost use Rattle.rt_view.specs.inside.Telling.{IsNew, IsSeen, gone_too, keys_in, kept_by, put_all, seen_in};
 ghost use Rattle.rt_view.specs.inside.Telling.{seen_out, seen_too, seen_turned, told_in, told_too, AreSeen};
 ghost use Rattle.rt_view.specs.inside.Telling.{IsFit, given_of};
@@ -23,7 +23,7 @@ ghost use Rattle.std.specs.FinMap as map_of;
 use crate::change::{Change, ChangeList, copy_key, removed};
 use crate::kinds::Kind;
 use crate::position::{Position, drop_child, key_before, put_child};
-use crate::window::{Turned, Window};
+use crate::window::{OrderedChildren, Turned};
 use rt_order::Index;
 use rt_query::Query;
 use rt_tree::{Key, Leaf, Tree};
@@ -284,7 +284,7 @@ fn put_told(
     alloc: Global,
     index: &Index,
     known: &Tree,
-    window: Option<&Window>,
+    window: Option<&OrderedChildren>,
     key: &Key,
     old: Option<&Tree>,
     new: &Tree,
@@ -315,7 +315,7 @@ fn find_told(
     alloc: Global,
     index: &Index,
     known: &Tree,
-    window: Option<&Window>,
+    window: Option<&OrderedChildren>,
     seen: &Seen,
 ) -> Result<(), AllocError>
     requires { IfSome seen.now.new (λ t. CanAsk known.now (option_copied window)
@@ -339,7 +339,7 @@ pub fn find_all_told(
     alloc: Global,
     query: &Query,
     known: &Tree,
-    window: Option<&Window>,
+    window: Option<&OrderedChildren>,
     seen: &[Seen],
 ) -> Result<Noted, AllocError>
     requires order { IsInOrder query.now known.now (option_copied window) }
@@ -412,7 +412,7 @@ fn row_changes(
     alloc: Global,
     query: &Query,
     known: &Tree,
-    window: Option<&Window>,
+    window: Option<&OrderedChildren>,
     seen: &[Seen],
 ) -> Result<Vec<Change>, AllocError>
     requires order { IsInOrder query.now known.now (option_copied window) }
@@ -469,7 +469,7 @@ pub fn tell_filtered(
     alloc: Global,
     query: &Query,
     known: &Tree,
-    window: &Window,
+    window: &OrderedChildren,
     seen: &[Seen],
 ) -> Result<ChangeList, AllocError>
     requires filtered { is_filtered query.now ≡ true }
@@ -540,7 +540,7 @@ pub fn tell_plain(
     alloc: Global,
     query: &Query,
     known: &Tree,
-    window: Option<&Window>,
+    window: Option<&OrderedChildren>,
     seen: &[Seen],
     leaf: Option<&Leaf>,
 ) -> Result<ChangeList, AllocError>

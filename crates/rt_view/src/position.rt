@@ -11,12 +11,12 @@ ghost use Rattle.rt_order.specs.KeyOrder.{integer_of};
 ghost use Rattle.rt_order.specs.Values.{Null};
 ghost use Rattle.rt_query.specs.Queries.{is_filtered};
 ghost use Rattle.rt_query.specs.Select.{row_of, as_children, sorted_by};
-ghost use Rattle.rt_view.specs.inside.Kept.{AreWords, CanAsk, IsOrdered, NameWords, entries_of, ordered_in};
-ghost use Rattle.rt_view.specs.inside.Kept.{IsWindowOf};
+ghost use Rattle.rt_view.specs.inside.ViewIndex.{AreWords, CanAsk, IsOrdered, NameWords, entries_of, ordered_in};
+ghost use Rattle.rt_view.specs.inside.ViewIndex.{IsWindowOf};
 ghost use Rattle.rt_view.specs.inside.Windows.{before};
 ghost use Rattle.rt_tree.specs.PathTree.{child_of, is_null, leaf_of, levels, null, object, put};
 
-use crate::window::{Window, ordered};
+use crate::window::{OrderedChildren, ordered};
 use rt_map::OrdMap;
 use rt_order::{Index, PlacedKey, Range, SortRef, is_integer, sort_value, value_cmp};
 use rt_query::{Query, Row};
@@ -224,7 +224,7 @@ pub fn before_in<'a>(known: &'a Tree, key: &Key) -> Option<&'a Key>
 // The key of the child that is shown before an entry.
 pub fn key_before<'a>(
     known: &'a Tree,
-    window: Option<&'a Window>,
+    window: Option<&'a OrderedChildren>,
     position: &Position,
 ) -> Option<&'a Key>
     requires { CanAsk known.now (option_copied window) position.now }
@@ -251,7 +251,11 @@ fn rows_in(alloc: Global, children: &OrdMap<Key, Tree>) -> Result<Vec<Row>, Allo
 }
 
 // The children that are shown, as rows.
-pub fn rows_of(alloc: Global, known: &Tree, window: Option<&Window>) -> Result<Vec<Row>, AllocError>
+pub fn rows_of(
+    alloc: Global,
+    known: &Tree,
+    window: Option<&OrderedChildren>,
+) -> Result<Vec<Row>, AllocError>
     ensures { IfOk result (λ rows. rows.items
         ≡ map row_of (ordered_in known.now (option_copied window.entry))) }
 {
@@ -295,11 +299,11 @@ fn in_order(alloc: Global, index: &Index, known: &Tree) -> Result<Vec<(Position,
 }
 
 // The window of a tree.
-pub fn window_of(alloc: Global, query: &Query, known: &Tree) -> Result<Window, AllocError>
+pub fn window_of(alloc: Global, query: &Query, known: &Tree) -> Result<OrderedChildren, AllocError>
     ensures { IfOk result (λ window. IsWindowOf query.now known.now window) }
 {
     let children = in_order(alloc, query.index(), known)?;
-    let window = Window::of(alloc, query.range(), query.limit(), children)?;
+    let window = OrderedChildren::of(alloc, query.range(), query.limit(), children)?;
     Ok(window)
 }
 

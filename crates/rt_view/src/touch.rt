@@ -12,8 +12,8 @@ ghost use Rattle.rt_view.specs.Views.{with_named};
 ghost use Rattle.rt_view.specs.inside.Windows.{Becomes, IsListed, IsWhole, all_of, known_in, shown_in};
 ghost use Rattle.rt_view.specs.inside.Windows.{value_at};
 ghost use Rattle.rt_view.specs.inside.Turns.{Comes, Leaves, Stands, Values};
-ghost use Rattle.rt_view.specs.inside.Kept.{ComesToWord, IsOrdered, IsWindowOf, NameWords, brought_in};
-ghost use Rattle.rt_view.specs.inside.Kept.{rows_in_tree, stands_in, wholly};
+ghost use Rattle.rt_view.specs.inside.ViewIndex.{ComesToWord, IsOrdered, IsWindowOf, NameWords, brought_in};
+ghost use Rattle.rt_view.specs.inside.ViewIndex.{rows_in_tree, stands_in, wholly};
 ghost use Rattle.rt_view.specs.inside.Telling.{AllSeen, KeepsSeen, kept_by, left_by, takes_place};
 
 use crate::change::{ChangeList, tell_alone};
@@ -21,7 +21,7 @@ use crate::news::{
     Seen, copy_tree, in_key_order, note_stands, note_turned, tell_filtered, tell_plain,
 };
 use crate::position::{Position, child_at, copy_leaf, put_child};
-use crate::window::{Turned, Window};
+use crate::window::{OrderedChildren, Turned};
 use rt_map::OrdMap;
 use rt_order::{Index, sort_value, value_cmp};
 use rt_query::Query;
@@ -37,7 +37,7 @@ fn takes_place(index: &Index, old: &Tree, new: &Tree) -> bool
 
 // Takes out what stood at a key, where the child that comes doesn't take its place.
 fn take_out(
-    window: &mut Window,
+    window: &mut OrderedChildren,
     alloc: Global,
     query: &Query,
     key: &Key,
@@ -70,7 +70,7 @@ fn take_out(
 
 // Puts a child at a key, where nothing is shown, or one in whose place it comes.
 fn bring_in(
-    window: &mut Window,
+    window: &mut OrderedChildren,
     alloc: Global,
     query: &Query,
     key: &Key,
@@ -101,7 +101,7 @@ fn bring_in(
 // key is found once; what is shown otherwise since, there and for the cut that moves, is noted.
 fn touch_child(
     known: &mut Tree,
-    window: &mut Window,
+    window: &mut OrderedChildren,
     noted: &mut Vec<Seen>,
     alloc: Global,
     query: &Query,
@@ -127,7 +127,7 @@ fn touch_child(
 // that may differ, in their order.
 fn touch_all(
     known: &mut Tree,
-    window: &mut Window,
+    window: &mut OrderedChildren,
     alloc: Global,
     query: &Query,
     named: &[(Key, Tree)],
@@ -150,7 +150,7 @@ fn touch_all(
 // known tree is what is shown.
 pub fn touch_plain(
     known: &mut Tree,
-    window: &mut Window,
+    window: &mut OrderedChildren,
     alloc: Global,
     query: &Query,
     named: &[(Key, Tree)],
@@ -165,7 +165,7 @@ pub fn touch_plain(
 {
     let leaf = copy_leaf(alloc, known)?;
     let seen = touch_all(known, window, alloc, query, named)?;
-    let window: &Window = window;
+    let window: &OrderedChildren = window;
     tell_plain(
         alloc,
         query,
@@ -180,7 +180,7 @@ pub fn touch_plain(
 // in a tree of its own.
 pub fn touch_filtered(
     known: &mut Tree,
-    window: &mut Window,
+    window: &mut OrderedChildren,
     tree: &mut Tree,
     alloc: Global,
     query: &Query,

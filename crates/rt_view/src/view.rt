@@ -8,15 +8,15 @@ ghost use Rattle.rt_view.specs.Errors.{code_of, name_of};
 ghost use Rattle.rt_view.specs.Views.{first_view, leaves_child, renewed, shown_of, stays_object, told};
 ghost use Rattle.rt_view.specs.Views.{touched, with_named};
 ghost use Rattle.rt_query.specs.Queries.{is_filtered};
-ghost use Rattle.rt_view.specs.declared.view.Kept.TheVariants.{Ordered};
-ghost use Rattle.rt_view.specs.inside.Kept.{IsKept, NameWords, tree_in, window_in};
+ghost use Rattle.rt_view.specs.declared.view.ViewIndex.TheVariants.{Ordered};
+ghost use Rattle.rt_view.specs.inside.ViewIndex.{IsKept, NameWords, tree_in, window_in};
 
 use crate::change::ChangeList;
 use crate::comparison::changes;
 use crate::difference::few_differing;
 use crate::position::{copy_leaf, count, is_ordered, name_words, object_of, rows_of, window_of};
 use crate::touch::{has_other, touch_filtered, touch_ordered, touch_plain};
-use crate::window::Window;
+use crate::window::OrderedChildren;
 use rt_query::{Query, Shown};
 use rt_tree::{Key, MAX_KEYS, Tree};
 use std::alloc::{AllocError, Global};
@@ -73,7 +73,7 @@ impl From<AllocError> for ViewError {
 pub struct View {
     query: Query,
     known: Tree,
-    kept: Kept,
+    kept: ViewIndex,
     reads: u64,
     turns: u64,
     failed: bool,
@@ -95,7 +95,7 @@ impl Drop for View {
 impl Model for View {
     ghost use Rattle.std.specs.Prelude.{◌≡◌, false};
     ghost use Rattle.rt_view.specs.Views.{View};
-    ghost use Rattle.rt_view.specs.inside.Kept.{IsKept};
+    ghost use Rattle.rt_view.specs.inside.ViewIndex.{IsKept};
 
     ghost Value = { View };
 
@@ -243,20 +243,20 @@ impl View {
 // What is kept of a tree beside it: nothing, where its children stand in the query's order; all of them
 // in order; or with these what a filtered query shows, as a tree of its own.
 #[derive(Drop)]
-pub enum Kept {
+pub enum ViewIndex {
     Ordered,
-    Plain(Window),
-    Filtered(Window, Tree),
+    Plain(OrderedChildren),
+    Filtered(OrderedChildren, Tree),
 }
 
-impl Kept {
+impl ViewIndex {
     // The children in order, where they are kept.
-    fn window(&self) -> Option<&Window>
+    fn window(&self) -> Option<&OrderedChildren>
         ensures { option_copied result ≡ window_in self.now }
     {
         match self {
-            Kept::Ordered => None,
-            Kept::Plain(window) | Kept::Filtered(window, _) => Some(window),
+            ViewIndex::Ordered => None,
+            ViewIndex::Plain(window) | ViewIndex::Filtered(window, _) => Some(window),
         }
     }
 
@@ -265,14 +265,14 @@ impl Kept {
         ensures { result.now ≡ tree_in known.now self.now }
     {
         match self {
-            Kept::Ordered | Kept::Plain(_) => known,
-            Kept::Filtered(_, tree) => tree,
+            ViewIndex::Ordered | ViewIndex::Plain(_) => known,
+            ViewIndex::Filtered(_, tree) => tree,
         }
     }
 }
 
 // What is kept of a tree of which a filtered query shows a part.
-fn filtered_of(alloc: Global, query: &Query, known: &Tree) -> Result<Kept, AllocError>
+fn filtered_of(alloc: Global, query: &Query, known: &Tree) -> Result<ViewIndex, AllocError>
     requires { is_filtered query.now ≡ true }
     ensures { IfOk result (λ kept. IsKept query.now known.now kept) }
 {
@@ -281,25 +281,25 @@ fn filtered_of(alloc: Global, query: &Query, known: &Tree) -> Result<Kept, Alloc
     let window = window_of(alloc, query, known)?;
     let rows = window.rows(alloc)?;
     let tree = object_of(alloc, rows.as_slice())?;
-    Ok(Kept::Filtered(window, tree))
+    Ok(ViewIndex::Filtered(window, tree))
 }
 
 // What is kept of a tree.
-fn kept_of(alloc: Global, query: &Query, known: &Tree) -> Result<Kept, AllocError>
+fn kept_of(alloc: Global, query: &Query, known: &Tree) -> Result<ViewIndex, AllocError>
     ensures { IfOk result (λ kept. IsKept query.now known.now kept) }
 {
     if query.is_filtered() {
         return filtered_of(alloc, query, known);
     }
     if is_ordered(query, known) {
-        return Ok(Kept::Ordered);
+        return Ok(ViewIndex::Ordered);
     }
     let window = window_of(alloc, query, known)?;
-    Ok(Kept::Plain(window))
+    Ok(ViewIndex::Plain(window))
 }
 
 // What is shown, by what is kept.
-pub fn shown_of(query: &Query, known: &Tree, kept: &Kept) -> Result<Shown, AllocError>
+pub fn shown_of(query: &Query, known: &Tree, kept: &ViewIndex) -> Result<Shown, AllocError>
     requires { IsKept query.now known.now kept.now }
     ensures { IfOk result (λ shown. shown ≡ select query.now known.now) }
 {
@@ -312,7 +312,11 @@ pub fn shown_of(query: &Query, known: &Tree, kept: &Kept) -> Result<Shown, Alloc
 }
 
 // What is kept of a tree, and what is shown of it.
-pub fn kept_anew(alloc: Global, query: &Query, known: &Tree) -> Result<(Kept, Shown), AllocError>
+pub fn kept_anew(
+    alloc: Global,
+    query: &Query,
+    known: &Tree,
+) -> Result<(ViewIndex, Shown), AllocError>
     ensures kept { IfOk result (λ p. IsKept query.now known.now p.0) }
     ensures shown { IfOk result (λ p. p.1 ≡ select query.now known.now) }
 {
@@ -323,7 +327,7 @@ pub fn kept_anew(alloc: Global, query: &Query, known: &Tree) -> Result<(Kept, Sh
 
 // Keeps the children in order, where they stood so in the tree and a named one comes to an integer key.
 fn order_numbers(
-    kept: &mut Kept,
+    kept: &mut ViewIndex,
     alloc: Global,
     query: &Query,
     known: &Tree,
@@ -334,22 +338,22 @@ fn order_numbers(
     ensures words { OnOk result (kept.new ≡ Ordered → NameWords named.now) }
 {
     match kept {
-        Kept::Ordered => {
+        ViewIndex::Ordered => {
             if name_words(named) {
                 return Ok(());
             }
         }
-        Kept::Plain(_) | Kept::Filtered(_, _) => return Ok(()),
+        ViewIndex::Plain(_) | ViewIndex::Filtered(_, _) => return Ok(()),
     }
     let window = window_of(alloc, query, known)?;
-    drop(replace(kept, Kept::Plain(window)));
+    drop(replace(kept, ViewIndex::Plain(window)));
     Ok(())
 }
 
 // Puts the named children in their places, and tells what changes.
 pub fn touch_kept(
     known: &mut Tree,
-    kept: &mut Kept,
+    kept: &mut ViewIndex,
     alloc: Global,
     query: &Query,
     named: &[(Key, Tree)],
@@ -363,16 +367,18 @@ pub fn touch_kept(
 {
     order_numbers(kept, alloc, query, known, named)?;
     match kept {
-        Kept::Ordered => touch_ordered(known, alloc, query, named),
-        Kept::Plain(window) => touch_plain(known, window, alloc, query, named),
-        Kept::Filtered(window, tree) => touch_filtered(known, window, tree, alloc, query, named),
+        ViewIndex::Ordered => touch_ordered(known, alloc, query, named),
+        ViewIndex::Plain(window) => touch_plain(known, window, alloc, query, named),
+        ViewIndex::Filtered(window, tree) => touch_filtered(
+            known, window, tree, alloc, query, named,
+        ),
     }
 }
 
 // Makes what is kept of another tree anew, and tells what changes.
 fn make_anew(
     known: &Tree,
-    kept: &mut Kept,
+    kept: &mut ViewIndex,
     alloc: Global,
     query: &Query,
     new: &Tree,
@@ -393,7 +399,7 @@ fn make_anew(
 // child, where few differ.
 pub fn renew_kept(
     known: &mut Tree,
-    kept: &mut Kept,
+    kept: &mut ViewIndex,
     alloc: Global,
     query: &Query,
     new: &Tree,

@@ -23,14 +23,14 @@ use std::alloc::{AllocError, Global};
 
 // All children that are known, in the order of their entries, with the cut up to which the limit shows
 // those in the range: the first of these in front of it, or the last of them behind it.
-pub struct Window {
+pub struct OrderedChildren {
     pub limit: Option<Limit>,
     pub children: Ranged,
 }
 
-impl Drop for Window {
+impl Drop for OrderedChildren {
     fn drop(self) {
-        let Window {
+        let OrderedChildren {
             limit: _,
             children: _,
         } = self;
@@ -120,14 +120,14 @@ fn is_half(half: Half, answer: Option<Half>) -> bool
     }
 }
 
-impl Window {
+impl OrderedChildren {
     // The window of these children.
     pub fn of(
         alloc: Global,
         range: &Range,
         limit: Option<Limit>,
         children: Vec<(Position, Tree)>,
-    ) -> Result<Window, AllocError>
+    ) -> Result<OrderedChildren, AllocError>
         requires { T (is_sorted entry_cmp children.items) }
         ensures limit { IfOk result (λ window. window.limit ≡ limit) }
         ensures range { IfOk result (λ window. window.children.range ≡ range.now) }
@@ -136,7 +136,7 @@ impl Window {
             (inside range.now children.items)) }
     {
         let children = Ranged::of(alloc, range, limit, children)?;
-        Ok(Window { limit, children })
+        Ok(OrderedChildren { limit, children })
     }
 
     // Puts a child at its entry. Where that lies in the range another one may cross the cut for it, or

@@ -22,13 +22,12 @@ ghost use Rattle.rt_wire.specs.declared.request.Asked.TheVariants.{AtDisconnect}
 ghost use Rattle.rt_wire.specs.declared.client.ClientMessage.TheVariants.{Hello, Unlisten, Ask};
 
 use crate::error::WireError;
-use crate::field::{entries, json_value, kind, number, path, taken, tree};
-use crate::query::query;
-use crate::query_json::write_query;
-use crate::request::{Action, Asked, Ending};
-use crate::writer::{
-    new_writer, text_of, write_entries, write_number, write_path, write_text, write_value,
+use crate::members::{
+    entries, json_value, kind, new_writer, number, path, taken, text_of, tree, write_entries,
+    write_number, write_path, write_text, write_value,
 };
+use crate::query::{query, write_query};
+use crate::request::{Action, Asked, Ending};
 use json::Writer;
 use rt_query::Query;
 use rt_tree::{Path, Tree};

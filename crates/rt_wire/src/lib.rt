@@ -12,21 +12,18 @@
 mod client;
 mod draft;
 mod error;
-pub mod examples;
-mod field;
 pub mod laws;
 mod limits;
+mod members;
 mod parts;
 mod query;
-mod query_json;
 mod request;
 mod server;
-mod writer;
 
 pub use client::ClientMessage;
 pub use error::WireError;
 pub use limits::{MAX_MARKS, MAX_NUMBER, MAX_REASON_BYTES, VERSION, is_crowded};
 pub use parts::{Part, Parts};
-pub use query_json::query_text;
+pub use query::query_text;
 pub use request::{Action, Asked, Ending, Reason, some_stands_too_deep, stands_too_deep};
 pub use server::ServerMessage;

@@ -21,7 +21,7 @@ pub const VERSION: u64 = 2;
 
 // Where a byte of JSON stands.
 #[derive(Clone, Copy)]
-enum Place {
+enum TextState {
     // Outside of all texts.
     Outside,
     // In a text.
@@ -31,38 +31,38 @@ enum Place {
 }
 
 // Where what follows a byte stands.
-fn place_behind(place: Place, byte: u8) -> Place
+fn place_behind(place: TextState, byte: u8) -> TextState
     ensures { result ≡ place_behind place byte }
 {
     match place {
-        Place::Outside => {
+        TextState::Outside => {
             if byte == b'"' {
-                Place::Inside
+                TextState::Inside
             } else {
-                Place::Outside
+                TextState::Outside
             }
         }
-        Place::Inside => {
+        TextState::Inside => {
             if byte == b'"' {
-                Place::Outside
+                TextState::Outside
             } else if byte == b'\\' {
-                Place::Escaped
+                TextState::Escaped
             } else {
-                Place::Inside
+                TextState::Inside
             }
         }
-        Place::Escaped => Place::Inside,
+        TextState::Escaped => TextState::Inside,
     }
 }
 
 // Whether a byte is a comma or an opening bracket outside of texts: behind it a value or a member begins, or an
 // empty array or object ends.
-fn is_mark(place: Place, byte: u8) -> bool
+fn is_mark(place: TextState, byte: u8) -> bool
     ensures { result ≡ is_mark place byte }
 {
     match place {
-        Place::Outside => byte == b',' || byte == b'[' || byte == b'{',
-        Place::Inside | Place::Escaped => false,
+        TextState::Outside => byte == b',' || byte == b'[' || byte == b'{',
+        TextState::Inside | TextState::Escaped => false,
     }
 }
 
@@ -71,7 +71,7 @@ fn is_mark(place: Place, byte: u8) -> bool
 pub fn is_crowded(text: &str) -> bool
     ensures { result ≡ is_crowded text.now }
 {
-    let mut place = Place::Outside;
+    let mut place = TextState::Outside;
     let mut left = MAX_MARKS;
     for byte in text.as_bytes() {
         if is_mark(place, *byte) {

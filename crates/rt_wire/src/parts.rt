@@ -12,8 +12,7 @@ ghost use Rattle.rt_wire.specs.inside.Writing.{PutsValue, PutsItems};
 ghost use Rattle.std.specs.Prelude.{map};
 
 use crate::error::WireError;
-use crate::field::{number, places, taken, trees};
-use crate::writer::{write_entries, write_number};
+use crate::members::{number, places, taken, trees, write_entries, write_number};
 use json::Writer;
 use rt_tree::Path;
 use rt_writes::Entries;

@@ -13,12 +13,12 @@ ghost use Rattle.rt_wire.specs.declared.server.ServerMessage.TheVariants.{Data a
 ghost use Rattle.rt_wire.specs.declared.server.ServerMessage.TheVariants.{Accepted, Refused, Revoked};
 
 use crate::error::WireError;
-use crate::field::{entries, json_value, kind, number, path, reason, taken, tree};
+use crate::members::{
+    entries, json_value, kind, new_writer, number, path, reason, taken, text_of, tree,
+    write_entries, write_number, write_path, write_text, write_value,
+};
 use crate::parts::{Parts, parts_in, write_parts};
 use crate::request::Reason;
-use crate::writer::{
-    new_writer, text_of, write_entries, write_number, write_path, write_text, write_value,
-};
 use json::Writer;
 use rt_tree::{Path, Tree};
 use rt_writes::Entries;

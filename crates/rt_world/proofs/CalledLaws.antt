@@ -14,8 +14,8 @@ use Rattle.rt_query.specs.laws.QueryEq.{query_eq_tells}
 use Rattle.rt_cache.specs.Brought.{Brought, nothing_brought, may_put, push}
 use Rattle.rt_cache.specs.Recover.{plain_spots, do_plains_overlap}
 use Rattle.rt_cache.specs.Runs.{AreAllowed, after, after_all}
-use Rattle.rt_cache.specs.declared.run.Call.{Call}
-use Rattle.rt_cache.specs.declared.run.Call.TheVariants.{Put, Recover}
+use Rattle.rt_cache.specs.declared.run.BroughtCall.{BroughtCall}
+use Rattle.rt_cache.specs.declared.run.BroughtCall.TheVariants.{Put, Recover}
 use Rattle.rt_cache.proofs.Belonging.{may_put-push}
 use Rattle.rt_cover.specs.Cover.{Registered, Tagged, forms, needed}
 use Rattle.rt_cover.specs.laws.CoverLaws.{Contains-from_filter, passes-from_filter, is_covered}
@@ -98,17 +98,17 @@ kept_apart w s h =
 
 -- ---- calls
 
-run_append : (cs ds : List Call) (b : Brought) → after_all b (cs ++ ds) ≡ after_all (after_all b cs) ds
+run_append : (cs ds : List BroughtCall) (b : Brought) → after_all b (cs ++ ds) ≡ after_all (after_all b cs) ds
 run_append [] ds b = refl
 run_append (c ∷ cs) ds b = run_append cs ds (after b c)
 
 -- calls that are allowed one after another
-allowed_append : (b : Brought) (cs ds : List Call) → AreAllowed b cs → AreAllowed (after_all b cs) ds → AreAllowed b (cs ++ ds)
+allowed_append : (b : Brought) (cs ds : List BroughtCall) → AreAllowed b cs → AreAllowed (after_all b cs) ds → AreAllowed b (cs ++ ds)
 allowed_append b [] ds h g = g
 allowed_append b (c ∷ cs) ds h g = (h.0, h.1, allowed_append (after b c) cs ds h.2 g)
 
 -- more calls
-pub called_more : (b : Brought) (cs : List Call) → IsCalled b → AreAllowed b cs → IsCalled (after_all b cs)
+pub called_more : (b : Brought) (cs : List BroughtCall) → IsCalled b → AreAllowed b cs → IsCalled (after_all b cs)
 called_more b cs h ok = record {
   calls = h.calls ++ cs;
   allowed = allowed_append nothing_brought h.calls cs h.allowed (subst (λ x. AreAllowed x cs) (sym h.left) ok);
@@ -116,7 +116,7 @@ called_more b cs h ok = record {
 }
 
 -- a push on a listen, entry by entry
-abbrev puts : Query → List Assignment → List Call
+abbrev puts : Query → List Assignment → List BroughtCall
 puts q entries = map (λ (a : Assignment). Put q a.0 a.1) entries
 
 puts_push : (q : Query) (entries : List Assignment) (b : Brought) → after_all b (puts q entries) ≡ fold (push q) b entries

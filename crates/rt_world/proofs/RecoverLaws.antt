@@ -9,7 +9,7 @@ use Rattle.rt_cache.specs.declared.brought.Base.{Base}
 use Rattle.rt_cache.specs.Recover.{reaches, regions_kept, do_plains_overlap}
 use Rattle.rt_cache.specs.Runs.{IsAllowed, after, after_all}
 use Rattle.rt_cache.specs.laws.Runs.{with_push, pushed, known_after, is_known}
-use Rattle.rt_cache.specs.declared.run.Call.TheVariants.{Recover}
+use Rattle.rt_cache.specs.declared.run.BroughtCall.TheVariants.{Recover}
 use Rattle.rt_cache.proofs.FilteredRuns.{allowed_each}
 use Rattle.rt_cache.proofs.RunLaws.{held_part}
 use Rattle.rt_world.specs.Called.{IsCalled}

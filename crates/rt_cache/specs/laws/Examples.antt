@@ -11,8 +11,8 @@ use Rattle.rt_cache.specs.Brought.{Brought, nothing_brought, base, base_child, k
 use Rattle.rt_cache.specs.Brought.{with_form, is_without_window}
 use Rattle.rt_cache.specs.Recover.{recover, is_moved, without_places}
 use Rattle.rt_cache.specs.Runs.{after_all, taken_all}
-use Rattle.rt_cache.specs.declared.run.Call.{Call}
-use Rattle.rt_cache.specs.declared.run.Call.TheVariants.{Put, Recover}
+use Rattle.rt_cache.specs.declared.run.BroughtCall.{BroughtCall}
+use Rattle.rt_cache.specs.declared.run.BroughtCall.TheVariants.{Put, Recover}
 
 -- ---- short spellings
 
@@ -154,7 +154,7 @@ TakenIn = push (plain_at (codes "/")) whole_window (at (codes "/"), num 7)
 -- ---- runs of calls
 
 -- on the listen of the root a child is pushed, then its parent; another child is listened to instead
-abbrev pub row : List Call
+abbrev pub row : List BroughtCall
 row =
     Put (plain_at (codes "/")) (at (codes "/a/b")) (num 1)
     ∷ Put (plain_at (codes "/")) (at (codes "/a")) (two (codes "b") 2 (codes "c") 3)
@@ -187,7 +187,7 @@ NoRegionBeside =
     × (after_all nothing_brought row ≢ parent_pushed)
 
 -- a window is pushed between two pushes below it, and its query ends
-abbrev pub window_row : List Call
+abbrev pub window_row : List BroughtCall
 window_row =
     Put (first_at 2 (codes "/a")) (at (codes "/a/x")) (num 1)
     ∷ Put (first_at 2 (codes "/a")) (at (codes "/a")) (num 7)

@@ -6,18 +6,18 @@ use Rattle.rt_cache.specs.Brought.{Base}
 use Rattle.rt_cache.specs.laws.Examples.{num, two, one, at, plain_at, first_at}
 use Rattle.rt_cache.specs.laws.Examples.{first_range, second_range, narrow_range}
 use Rattle.rt_cache.specs.laws.Windows.{held_by, seen}
-use Rattle.rt_cache.specs.declared.run.Call.{Call}
-use Rattle.rt_cache.specs.declared.run.Call.TheVariants.{Put, Recover}
+use Rattle.rt_cache.specs.declared.run.BroughtCall.{BroughtCall}
+use Rattle.rt_cache.specs.declared.run.BroughtCall.TheVariants.{Put, Recover}
 
 -- what calls tell of a query
-abbrev pub told : List Call → Query → Option Base
+abbrev pub told : List BroughtCall → Query → Option Base
 told calls q = seen calls (held_by calls) q
 
 -- they don't tell this of it, or that it holds this
-abbrev pub Never : List Call → Query → Option Base → Type 0
+abbrev pub Never : List BroughtCall → Query → Option Base → Type 0
 Never calls q base = told calls q ≡ base → ⊥
 
-abbrev pub NeverHolds : List Call → Query → Option Base → Type 0
+abbrev pub NeverHolds : List BroughtCall → Query → Option Base → Type 0
 NeverHolds calls q base = held_by calls q ≡ base → ⊥
 
 -- the first two children of /a
@@ -39,16 +39,16 @@ abbrev pub only_z : PathTree
 only_z = object ((codes "z", num 3) ∷ [])
 
 -- it gives way to a plain listen over all
-abbrev pub over_all : Call
+abbrev pub over_all : BroughtCall
 over_all = Recover (first_two ∷ plain_at (codes "/") ∷ []) (plain_at (codes "/") ∷ [])
 
 -- z is pushed
-abbrev pub z_pushed : List Call
+abbrev pub z_pushed : List BroughtCall
 z_pushed = Put first_two (at (codes "/a/z")) (num 3) ∷ []
 
 -- ---- x and y are pushed at its path, and then z
 
-abbrev pub shown : List Call
+abbrev pub shown : List BroughtCall
 shown =
     Recover (first_two ∷ []) (first_two ∷ [])
     ∷ Put first_two (at (codes "/a")) (two (codes "x") 1 (codes "y") 2)
@@ -71,7 +71,7 @@ WholeAtOnce = Never shown first_two (wholly three)
 
 -- ---- a plain listen pushed x and y, and gives way to it; then z is pushed
 
-abbrev pub lost : List Call
+abbrev pub lost : List BroughtCall
 lost =
     over_all
     ∷ Put (plain_at (codes "/")) (at (codes "/a")) (two (codes "x") 1 (codes "y") 2)
@@ -90,7 +90,7 @@ RegionDropped = Never lost first_two (wholly only_z)
 
 -- ---- and then it is replaced by z
 
-abbrev pub replaced : List Call
+abbrev pub replaced : List BroughtCall
 replaced = lost ++ Put first_two (at (codes "/a")) only_z ∷ []
 
 -- it stays whole, or keeps the children from before
@@ -113,7 +113,7 @@ HidesRegion = Never (shown ++ over_all ∷ Put (plain_at (codes "/")) (at (codes
 
 -- ---- two ranges that take in a narrow one; a push on the first
 
-abbrev pub pushed_first : List Call
+abbrev pub pushed_first : List BroughtCall
 pushed_first =
     Recover (first_range ∷ second_range ∷ narrow_range ∷ []) (first_range ∷ second_range ∷ [])
     ∷ Put first_range [] one
@@ -135,7 +135,7 @@ SecondShows = Never pushed_first second_range (partly one)
 abbrev pub five_and_six : PathTree
 five_and_six = two (codes "p") 5 (codes "r") 6
 
-abbrev pub pushed_both : List Call
+abbrev pub pushed_both : List BroughtCall
 pushed_both = pushed_first ++ Put second_range [] five_and_six ∷ []
 
 -- the narrow one is shown from the one that was pushed last
@@ -143,7 +143,7 @@ abbrev pub LastIsShown : Type 0
 LastIsShown = Never pushed_both narrow_range (partly five_and_six)
 
 -- and from the first still, once that ends
-abbrev pub first_ends : List Call
+abbrev pub first_ends : List BroughtCall
 first_ends = Recover (second_range ∷ narrow_range ∷ []) (second_range ∷ []) ∷ []
 
 abbrev pub EndedShows : Type 0
@@ -151,7 +151,7 @@ EndedShows = Never (pushed_both ++ first_ends) narrow_range (partly one)
 
 -- ---- the first ends, with no push on the second
 
-abbrev pub handed : List Call
+abbrev pub handed : List BroughtCall
 handed = pushed_first ++ first_ends
 
 -- the children go, though the narrow one had them; they are taken for all; the second gets them, or
@@ -170,7 +170,7 @@ EndedHolds = NeverHolds handed first_range (partly one)
 
 -- ---- a plain listen's push is lost over the first and the narrow one, then the first is pushed
 
-abbrev pub region_gone : List Call
+abbrev pub region_gone : List BroughtCall
 region_gone =
     Recover (plain [] ∷ narrow_range ∷ first_range ∷ []) (plain [] ∷ [])
     ∷ Put (plain []) [] five_and_six
@@ -194,7 +194,7 @@ OldIsShown = Never (region_gone ++ Put first_range [] one ∷ []) narrow_range (
 
 -- ---- the narrow one is pushed; then a wider one comes, and is pushed
 
-abbrev pub wider_comes : List Call
+abbrev pub wider_comes : List BroughtCall
 wider_comes =
     Recover (narrow_range ∷ []) (narrow_range ∷ [])
     ∷ Put narrow_range [] five_and_six

@@ -10,7 +10,7 @@ use Rattle.rt_query.specs.Queries.{Query, is_filtered}
 use Rattle.rt_query.specs.QueryEq.{query_eq}
 use Rattle.rt_nodes.specs.Forest.{Forest, bare, node, IsRow, row_at}
 use Rattle.rt_nodes.specs.Changes.{Changed, with_content}
-use Rattle.rt_nodes.specs.declared.linked.Slot.{Slot}
+use Rattle.rt_nodes.specs.declared.nodes.Slot.{Slot}
 use Rattle.rt_forms.specs.Numbers.{with_number, without_number}
 
 -- what is registered at a path: the numbers of the plain form's listeners, the filtered forms with those

@@ -3,7 +3,7 @@ use Rattle.std.specs.Prelude.{◌≡◌, ◌+◌, ◌&&◌, ℕ, Bool, true, fal
 use Rattle.slab.specs.Slab.{Slab, get}
 use Rattle.rt_nodes.specs.Forest.{one_if}
 use Rattle.rt_nodes.specs.inside.Often.{in_row, in_nth}
-use Rattle.rt_nodes.specs.declared.linked.Slot.{Slot}
+use Rattle.rt_nodes.specs.declared.nodes.Slot.{Slot}
 use Rattle.rt_nodes.specs.declared.children.Ranks.{Ranks}
 
 -- how often a child stands in the row of the root or of a node

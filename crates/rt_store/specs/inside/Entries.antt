@@ -4,7 +4,7 @@ use Rattle.slab.specs.Slab.{Slab}
 use Rattle.rt_tree.specs.Leaf.{LeafValue}
 use Rattle.rt_tree.specs.PathTree.{PathTree, of_leaf, object}
 use Rattle.rt_nodes.specs.Forest.{Forest, bare, node}
-use Rattle.rt_nodes.specs.declared.linked.Slot.{Slot}
+use Rattle.rt_nodes.specs.declared.nodes.Slot.{Slot}
 use Rattle.rt_store.specs.Rows.{Row}
 
 -- a node carries the leaf that it is, where it has no children

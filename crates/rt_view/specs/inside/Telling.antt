@@ -18,7 +18,7 @@ use Rattle.rt_view.specs.declared.window.Turned.{Turned}
 use Rattle.rt_view.specs.declared.change.Change.{Change}
 use Rattle.rt_view.specs.declared.kinds.Kind.{Kind}
 use Rattle.rt_view.specs.inside.Given.{change_of, is_given}
-use Rattle.rt_view.specs.inside.Kept.{Notes, NotesAll, taken_out}
+use Rattle.rt_view.specs.inside.ViewIndex.{Notes, NotesAll, taken_out}
 use Rattle.rt_view.specs.inside.Turns.{Values, shown_if}
 use Rattle.rt_view.specs.inside.Windows.{Entries, before, value_at}
 

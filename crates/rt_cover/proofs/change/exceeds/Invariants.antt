@@ -5,4 +5,4 @@ use Rattle.rt_cover.proofs.change.exceeds.Given as goal
 
 abbrev pub invariant-loop-listener : goal.invariant-loop-listener
 invariant-loop-listener g l =
-    l.left + count_by (starts (by_number (g.E.Ending.ended l.ending)) l.kept l.listeners) (take l.listener-index l.listeners) ≡ l.room
+    l.left + count_by (starts (by_number (g.E.EndedListeners.ended l.ending)) l.kept l.listeners) (take l.listener-index l.listeners) ≡ l.room

@@ -14,18 +14,18 @@ remove-requires g c =
     let l : Registered = c.listener-item.result in
     record {
       there = (λ i. list_any (λ m. m == c.number-then-ends.ensures i) (numbers c.loop-listener.forms (c.form.ensures i)))
-          ∙ there_at (by_number (g.E.Ending.ended c.args.ending.now)) c.args.listeners.now c.loop-listener.listener-index l c.loop-listener.forms
+          ∙ there_at (by_number (g.E.EndedListeners.ended c.args.ending.now)) c.args.listeners.now c.loop-listener.listener-index l c.loop-listener.forms
           c.loop-listener-test.true c.listener-item.is c.loop-listener.invariant;
     }
 
 pub loop-listener-preserved : goal.loop-listener-preserved
 loop-listener-preserved g c =
-    let ends : Registered → Bool = by_number (g.E.Ending.ended c.args.ending.now) in
+    let ends : Registered → Bool = by_number (g.E.EndedListeners.ended c.args.ending.now) in
     let ls : List Registered = c.args.listeners.now in
     let i : ℕ = c.loop-listener.listener-index in
     let l : Registered = c.listener-item.result in
     let old : Forms = c.loop-listener.forms in
-    let told : c.ends.result ≡ ends l = c.ends.ensures ∙ ap (g.E.Ending.ended c.args.ending.now) c.number.ensures in
+    let told : c.ends.result ≡ ends l = c.ends.ensures ∙ ap (g.E.EndedListeners.ended c.args.ending.now) c.number.ensures in
     elim c.if-ends.branch [
       | then-ends w ↦
           subst (IsWalked (walked ends (i + 1) ls)) (sym w.forms-is)

@@ -3,4 +3,4 @@ use Rattle.rt_cover.proofs.HeldLaws.{walked, IsWalked}
 use Rattle.rt_cover.proofs.listeners.take_ended.Given as goal
 
 abbrev pub invariant-loop-listener : goal.invariant-loop-listener
-invariant-loop-listener g l = IsWalked (walked (by_number (g.E.Ending.ended l.ending)) l.listener-index l.listeners) l.forms
+invariant-loop-listener g l = IsWalked (walked (by_number (g.E.EndedListeners.ended l.ending)) l.listener-index l.listeners) l.forms

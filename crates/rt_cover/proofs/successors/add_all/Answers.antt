@@ -19,7 +19,7 @@ loop-rest-smaller g c =
 
 pub loop-rest-preserved : goal.loop-rest-preserved
 loop-rest-preserved g c = λ p.
-    let begins : ℕ → Bool = begins_at (by_number (g.E.Ending.ended c.args.ending.now)) c.args.listeners.now p in
+    let begins : ℕ → Bool = begins_at (by_number (g.E.EndedListeners.ended c.args.ending.now)) c.args.listeners.now p in
     let old : Bool = list_any p c.loop-rest.numbers.items in
     let all : Bool = list_any p c.args.numbers.now.items || list_any begins c.args.supplied.now in
     subst (λ (xs : List ℕ). (list_any p c.add_next.new.numbers.items || list_any begins xs) ≡ all) (sym c.behind-rest.ensures)
@@ -28,6 +28,6 @@ loop-rest-preserved g c = λ p.
 
 pub returns : goal.returns
 returns g c = λ p.
-    let begins : ℕ → Bool = begins_at (by_number (g.E.Ending.ended c.args.ending.now)) c.args.listeners.now p in
+    let begins : ℕ → Bool = begins_at (by_number (g.E.EndedListeners.ended c.args.ending.now)) c.args.listeners.now p in
     let none : length c.loop-rest.rest.now ≡ 0 = search rules in
     any_done begins (list_any p c.loop-rest.numbers.items) (list_any p c.args.numbers.now.items || list_any begins c.args.supplied.now) c.loop-rest.rest.now none (c.loop-rest.invariant p)

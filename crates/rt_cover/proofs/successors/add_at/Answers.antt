@@ -11,7 +11,7 @@ use Rattle.rt_cover.proofs.successors.add_at.Goals as goal
 
 pub returns : goal.returns
 returns g c =
-    let ended = g.E.Ending.ended c.args.ending.now in
+    let ended = g.E.EndedListeners.ended c.args.ending.now in
     let ks : List Tagged = c.args.ranges.now in
     let ls : List Registered = c.args.listeners.now in
     let some : Query → Bool = λ f. list_any (λ (k : Tagged). does_supply k.form f) ks in

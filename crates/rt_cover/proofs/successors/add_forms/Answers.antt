@@ -19,7 +19,7 @@ goes_in-requires-clause-among g c =
 
 pub loop-place-preserved : goal.loop-place-preserved
 loop-place-preserved g c =
-    let ended = g.E.Ending.ended c.args.ending.now in
+    let ended = g.E.EndedListeners.ended c.args.ending.now in
     let es : List Entry = c.args.entries.now in
     let ks : List Tagged = c.args.ranges.now in
     let n : ℕ = c.loop-place.place in

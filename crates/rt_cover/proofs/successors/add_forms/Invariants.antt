@@ -9,9 +9,9 @@ use Rattle.rt_cover.proofs.successors.add_forms.Given as goal
 -- those that were gone over are told of, and the last that went in is left
 abbrev pub invariant-loop-place : goal.invariant-loop-place
 invariant-loop-place g l = record {
-  told : (t : ℕ → Bool) → IsOfTops (g.E.Ending.ended l.ending) l.entries t
+  told : (t : ℕ → Bool) → IsOfTops (g.E.EndedListeners.ended l.ending) l.entries t
       → (list_any t l.numbers.items || list_any (λ (e : Entry). list_any (λ (k : Tagged). does_supply k.form e.0) l.ranges && list_any t e.1) (drop l.place l.entries))
       ≡ (list_any t l.initial.numbers.items || list_any (λ (e : Entry). list_any (λ (k : Tagged). does_supply k.form e.0) l.ranges && list_any t e.1) l.entries);
   among : IsAmong l.place l.last;
-  left : (d : Entry) → IfSome l.last (λ w. has_left (g.E.Ending.ended l.ending) (get_or l.entries w d) ≡ true);
+  left : (d : Entry) → IfSome l.last (λ w. has_left (g.E.EndedListeners.ended l.ending) (get_or l.entries w d) ≡ true);
 }

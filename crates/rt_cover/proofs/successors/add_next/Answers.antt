@@ -11,7 +11,7 @@ begun-requires-clause-there g c = sym (ap option_copied (sym c.in-Some.is) ∙ c
 
 pub returns-in_default-clause-numbers : goal.returns-in_default-clause-numbers
 returns-in_default-clause-numbers g c = λ p.
-    let ended : ℕ → Bool = g.E.Ending.ended c.args.ending.now in
+    let ended : ℕ → Bool = g.E.EndedListeners.ended c.args.ending.now in
     let begins : ℕ → Bool = begins_at (by_number ended) c.args.listeners.now p in
     or_no (list_any p c.args.numbers.now.items)
     ∙ ap (λ b. list_any p c.args.numbers.now.items || b)
@@ -19,6 +19,6 @@ returns-in_default-clause-numbers g c = λ p.
 
 pub returns-then-others-eq0-clause-numbers : goal.returns-then-others-eq0-clause-numbers
 returns-then-others-eq0-clause-numbers g c = λ p.
-    let begins : ℕ → Bool = begins_at (by_number (g.E.Ending.ended c.args.ending.now)) c.args.listeners.now p in
+    let begins : ℕ → Bool = begins_at (by_number (g.E.EndedListeners.ended c.args.ending.now)) c.args.listeners.now p in
     c.in_ok-add_some.ensures p
     ∙ ap (λ b. list_any p c.args.numbers.now.items || b) (c.begun.ensures p ∙ any_first begins c.args.supplied.now 0 c.requires.some)

@@ -9,7 +9,7 @@ use Rattle.rt_cover.proofs.successors.goes_in.Goals as goal
 
 pub returns-then-leads : goal.returns-then-leads
 returns-then-leads g c = λ d.
-    let ended = g.E.Ending.ended c.args.ending.now in
+    let ended = g.E.EndedListeners.ended c.args.ending.now in
     let es : List Entry = c.args.entries.now in
     let n : ℕ = c.args.place in
     let within : n < length es = search rules in
@@ -22,7 +22,7 @@ returns-then-leads g c = λ d.
 
 pub returns-else-leads : goal.returns-else-leads
 returns-else-leads g c = λ d.
-    let ended = g.E.Ending.ended c.args.ending.now in
+    let ended = g.E.EndedListeners.ended c.args.ending.now in
     let es : List Entry = c.args.entries.now in
     let n : ℕ = c.args.place in
     let some : Query → Bool = λ f. list_any (λ (k : Tagged). does_supply k.form f) c.args.ranges.now in

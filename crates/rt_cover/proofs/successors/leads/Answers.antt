@@ -6,7 +6,7 @@ use Rattle.rt_cover.proofs.successors.leads.Goals as goal
 
 pub returns-then-not-is_wider_at : goal.returns-then-not-is_wider_at
 returns-then-not-is_wider_at g c = λ d.
-    let ended = g.E.Ending.ended c.args.ending.now in
+    let ended = g.E.EndedListeners.ended c.args.ending.now in
     let es : List Entry = c.args.entries.now in
     let n : ℕ = c.args.place in
     let within : n < length es = search rules in
@@ -22,7 +22,7 @@ returns-then-not-is_wider_at g c = λ d.
 
 pub returns-else-not-is_wider_at : goal.returns-else-not-is_wider_at
 returns-else-not-is_wider_at g c = λ d.
-    let ended = g.E.Ending.ended c.args.ending.now in
+    let ended = g.E.EndedListeners.ended c.args.ending.now in
     let es : List Entry = c.args.entries.now in
     let n : ℕ = c.args.place in
     let within : n < length es = search rules in

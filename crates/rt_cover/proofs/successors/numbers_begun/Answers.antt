@@ -17,13 +17,13 @@ supplied-requires-clause-apart g c =
 
 pub returns : goal.returns
 returns g c = λ p.
-    let ends : Registered → Bool = by_number (g.E.Ending.ended c.args.ending.now) in
+    let ends : Registered → Bool = by_number (g.E.EndedListeners.ended c.args.ending.now) in
     let ls : List Registered = c.args.listeners.now in
     let begins : ℕ → Bool = begins_at ends ls p in
     c.in_ok-add_all.ensures p
     ∙ ap (λ (ns : List ℕ). list_any p ns || list_any begins c.deref-2.result.now) c.new-numbers.ensures.items
     ∙ ap (list_any begins) c.deref-2.ensures.value
-    ∙ c.in_ok-candidates.ensures begins (of_beginners (g.E.Ending.ended c.args.ending.now) ls c.requires.rise p)
+    ∙ c.in_ok-candidates.ensures begins (of_beginners (g.E.EndedListeners.ended c.args.ending.now) ls c.requires.rise p)
     ∙ ap (list_any (has_supplied ls begins)) c.deref.ensures.value
     ∙ same_any (has_supplied ls begins) c.in_ok-ordered.ordered.items c.args.lost.now c.in_ok-ordered.ensures.same
     ∙ list_any_agreeing (has_supplied ls begins) (begins_after ends ls p) c.args.lost.now (supplied_begin ends ls c.requires.rise p)

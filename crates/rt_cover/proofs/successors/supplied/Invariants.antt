@@ -7,7 +7,7 @@ use Rattle.rt_cover.proofs.successors.supplied.Given as goal
 
 abbrev pub invariant-loop-rest : goal.invariant-loop-rest
 invariant-loop-rest g l = record {
-  told : (t : ℕ → Bool) → IsOfBeginners (g.E.Ending.ended l.ending) l.listeners t → (list_any t l.numbers.items || list_any (has_supplied l.listeners t) l.rest) ≡ list_any (has_supplied l.listeners t) l.listens;
+  told : (t : ℕ → Bool) → IsOfBeginners (g.E.EndedListeners.ended l.ending) l.listeners t → (list_any t l.numbers.items || list_any (has_supplied l.listeners t) l.rest) ≡ list_any (has_supplied l.listeners t) l.listens;
   order : IsSorted (by_form form_of) l.rest;
   apart : AreApart form_of l.rest;
 }

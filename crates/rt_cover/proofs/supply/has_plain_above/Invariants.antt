@@ -6,4 +6,4 @@ use Rattle.rt_cover.proofs.ByPathLaws.{is_plain_above}
 use Rattle.rt_cover.proofs.supply.has_plain_above.Given as goal
 
 abbrev pub invariant-loop-count : goal.invariant-loop-count
-invariant-loop-count g l = list_any (is_plain_above (λ (x : Registered). x.1) l.path l.count) (left (by_number (g.E.Ending.ended l.ending)) l.listeners) ≡ false
+invariant-loop-count g l = list_any (is_plain_above (λ (x : Registered). x.1) l.path l.count) (left (by_number (g.E.EndedListeners.ended l.ending)) l.listeners) ≡ false

@@ -9,7 +9,7 @@ use Rattle.rt_cover.proofs.supply.has_wider.Goals as goal
 pub returns : goal.returns
 returns g c =
     let q : Query = c.args.query.now in
-    let ended = g.E.Ending.ended c.args.ending.now in
+    let ended = g.E.EndedListeners.ended c.args.ending.now in
     c.has_taker_among.ensures
     ∙ sym (in_front_alone ended q c.filtered_at-entries.result.now c.count_in_front-count.result c.count_in_front-count.ensures.within c.count_in_front-count.ensures.point)
     ∙ c.filtered_at-entries.ensures.forms (λ f. not (query_eq f q) && takes_in f q) (λ m. not (ended m))

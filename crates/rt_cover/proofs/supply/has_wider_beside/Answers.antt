@@ -10,7 +10,7 @@ use Rattle.rt_cover.proofs.supply.has_wider_beside.Goals as goal
 pub returns-then-eq : goal.returns-then-eq
 returns-then-eq g c =
     let q : Query = c.args.query.now in
-    let ended = g.E.Ending.ended c.args.ending.now in
+    let ended = g.E.EndedListeners.ended c.args.ending.now in
     let w = c.in-Some.widest.now in
     let known : IsOfPath ended c.args.listeners.now w.path.now w.entries.now w.places.now = subst (λ o. IfSome o (λ w. IsOfPath ended c.args.listeners.now w.now.path.now w.now.entries.now w.now.places.now)) c.in-Some.is c.requires in
     let is : path_eq w.path.now c.path.result.now ≡ true = search rules in

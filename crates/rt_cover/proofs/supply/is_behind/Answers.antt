@@ -18,7 +18,7 @@ or_no false = refl
 pub returns-then-is_seen : goal.returns-then-is_seen
 returns-then-is_seen g c =
     let l : Registered = c.args.listener.now in
-    let ends : Registered → Bool = by_number (g.E.Ending.ended c.args.ending.now) in
+    let ends : Registered → Bool = by_number (g.E.EndedListeners.ended c.args.ending.now) in
     let ls : List Registered = left ends c.args.listeners.now in
     let by : Bool = list_any (λ (m : Registered). not (query_eq m.1 l.1) && does_supply m.1 l.1) ls in
     c.if-is_seen.true
@@ -28,7 +28,7 @@ returns-then-is_seen g c =
 pub returns-else-is_seen : goal.returns-else-is_seen
 returns-else-is_seen g c =
     let l : Registered = c.args.listener.now in
-    let ends : Registered → Bool = by_number (g.E.Ending.ended c.args.ending.now) in
+    let ends : Registered → Bool = by_number (g.E.EndedListeners.ended c.args.ending.now) in
     let ls : List Registered = left ends c.args.listeners.now in
     let by : Bool = list_any (λ (m : Registered). not (query_eq m.1 l.1) && does_supply m.1 l.1) ls in
     c.is_supplied.ensures

@@ -5,5 +5,5 @@ use Rattle.rt_cover.proofs.supply.is_left.Goals as goal
 
 pub returns : goal.returns
 returns g c =
-    c.has_left.ensures ∙ ap (list_any (λ m. not (g.E.Ending.ended c.args.ending.now m))) c.numbers.ensures
-    ∙ of_numbers c.args.form.now (λ m. not (g.E.Ending.ended c.args.ending.now m)) c.args.listeners.now
+    c.has_left.ensures ∙ ap (list_any (λ m. not (g.E.EndedListeners.ended c.args.ending.now m))) c.numbers.ensures
+    ∙ of_numbers c.args.form.now (λ m. not (g.E.EndedListeners.ended c.args.ending.now m)) c.args.listeners.now

@@ -9,5 +9,5 @@ pub returns : goal.returns
 returns g c =
     let l : Registered = c.args.listener.now in
     c.has_lesser_left.ensures
-    ∙ (λ i. list_any (λ m. nat_lt m (c.number.ensures i) && not (g.E.Ending.ended c.args.ending.now m)) ((c.numbers-numbers.ensures ∙ ap (numbers_of c.args.listeners.now) c.form.ensures) i))
-    ∙ seen_left l.1 (g.E.Ending.ended c.args.ending.now) l.0 c.args.listeners.now
+    ∙ (λ i. list_any (λ m. nat_lt m (c.number.ensures i) && not (g.E.EndedListeners.ended c.args.ending.now m)) ((c.numbers-numbers.ensures ∙ ap (numbers_of c.args.listeners.now) c.form.ensures) i))
+    ∙ seen_left l.1 (g.E.EndedListeners.ended c.args.ending.now) l.0 c.args.listeners.now

@@ -9,7 +9,7 @@ use Rattle.rt_cover.proofs.supply.is_supplied_there.Goals as goal
 pub returns-then-has_plain : goal.returns-then-has_plain
 returns-then-has_plain g c =
     let f : Query = c.args.query.now in
-    let ls = left (by_number (g.E.Ending.ended c.args.ending.now)) c.args.listeners.now in
+    let ls = left (by_number (g.E.EndedListeners.ended c.args.ending.now)) c.args.listeners.now in
     let is : c.keys.result.now ≡ f.path = c.keys.ensures.keys ∙ c.path.ensures in
     c.if-has_plain.true
     ∙ sym (ap (λ b. b || list_any (is_wider f) ls)
@@ -18,7 +18,7 @@ returns-then-has_plain g c =
 pub returns-else-has_plain : goal.returns-else-has_plain
 returns-else-has_plain g c =
     let f : Query = c.args.query.now in
-    let ls = left (by_number (g.E.Ending.ended c.args.ending.now)) c.args.listeners.now in
+    let ls = left (by_number (g.E.EndedListeners.ended c.args.ending.now)) c.args.listeners.now in
     let is : c.keys.result.now ≡ f.path = c.keys.ensures.keys ∙ c.path.ensures in
     c.has_wider_beside.ensures
     ∙ sym (ap (λ b. b || list_any (is_wider f) ls)

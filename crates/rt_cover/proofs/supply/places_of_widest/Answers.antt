@@ -10,7 +10,7 @@ pub loop-place-init : goal.loop-place-init
 loop-place-init g c = record {
   len = search rules;
   among = tt;
-  widest = none_yet (g.E.Ending.ended c.args.ending.now) c.args.entries.now;
+  widest = none_yet (g.E.EndedListeners.ended c.args.ending.now) c.args.entries.now;
   places = search rules;
   each = λ n o lt. absurd (omega (arith, lt));
 }
@@ -23,7 +23,7 @@ wider_of-widest-requires-clause-widest g c = c.loop-place.invariant.widest
 
 pub loop-place-preserved : goal.loop-place-preserved
 loop-place-preserved g c =
-    let ended = g.E.Ending.ended c.args.ending.now in
+    let ended = g.E.EndedListeners.ended c.args.ending.now in
     let es : List Entry = c.args.entries.now in
     let n : ℕ = c.loop-place.place in
     let o : Option ℕ = c.wider_of-widest.result in

@@ -12,7 +12,7 @@ returns-then-not-has_left-clause-among g c = among_more c.args.place c.args.wide
 
 pub returns-then-not-has_left-clause-widest : goal.returns-then-not-has_left-clause-widest
 returns-then-not-has_left-clause-widest g c =
-    let ended = g.E.Ending.ended c.args.ending.now in
+    let ended = g.E.EndedListeners.ended c.args.ending.now in
     let es : List Entry = c.args.entries.now in
     let e : Entry = c.index-entries-place.result in
     let at : e ≡ get_or es c.args.place e = search rules in
@@ -21,7 +21,7 @@ returns-then-not-has_left-clause-widest g c =
 
 pub returns-in_default-clause-widest : goal.returns-in_default-clause-widest
 returns-in_default-clause-widest g c =
-    let ended = g.E.Ending.ended c.args.ending.now in
+    let ended = g.E.EndedListeners.ended c.args.ending.now in
     let es : List Entry = c.args.entries.now in
     let e : Entry = c.index-entries-place.result in
     let at : e ≡ get_or es c.args.place e = search rules in
@@ -35,7 +35,7 @@ bounds-entries-other g c =
 
 pub returns-then-takes_in-clause-widest : goal.returns-then-takes_in-clause-widest
 returns-then-takes_in-clause-widest g c =
-    let ended = g.E.Ending.ended c.args.ending.now in
+    let ended = g.E.EndedListeners.ended c.args.ending.now in
     let es : List Entry = c.args.entries.now in
     let e : Entry = c.index-entries-place-2.result in
     let w : Entry = c.index-entries-other.result in
@@ -47,7 +47,7 @@ returns-then-takes_in-clause-widest g c =
 
 pub returns-clause-widest : goal.returns-clause-widest
 returns-clause-widest g c =
-    let ended = g.E.Ending.ended c.args.ending.now in
+    let ended = g.E.EndedListeners.ended c.args.ending.now in
     let es : List Entry = c.args.entries.now in
     let e : Entry = c.index-entries-place-2.result in
     let w : Entry = c.index-entries-other.result in

@@ -2,7 +2,7 @@ use Rattle.std.proofs.Common.{◌++◌, append-nil, ap, sym, None, ◌∙◌}
 use Rattle.std.specs.Option.{option_copied}
 use Rattle.rt_order.specs.Entries.{entry}
 use Rattle.rt_view.specs.inside.Alone.{told_there}
-use Rattle.rt_view.specs.inside.Kept.{ordered_in}
+use Rattle.rt_view.specs.inside.ViewIndex.{ordered_in}
 use Rattle.rt_view.specs.inside.Windows.{before}
 use Rattle.rt_view.proofs.AloneLaws.{same_there}
 use Rattle.rt_view.proofs.change.push_there.Goals as goal

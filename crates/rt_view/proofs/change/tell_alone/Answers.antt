@@ -6,7 +6,7 @@ use Rattle.rt_order.specs.Entries.{sort_value}
 use Rattle.rt_query.specs.Select.{select}
 use Rattle.rt_view.specs.Changes.{changes}
 use Rattle.rt_view.specs.inside.Alone.{told_alone}
-use Rattle.rt_view.specs.inside.Kept.{changes_to, entries_shown}
+use Rattle.rt_view.specs.inside.ViewIndex.{changes_to, entries_shown}
 use Rattle.rt_view.proofs.AloneLaws.{alone_all, alone_notes, alone_now}
 use Rattle.rt_view.proofs.Listed.{listed-entries}
 use Rattle.rt_view.proofs.OrderLaws.{shown_ordered}

@@ -1,6 +1,6 @@
 use Rattle.std.proofs.Common.{◌≡◌, ◌++◌}
 use Rattle.std.specs.Vec.Iter.{into_iter_items}
-use Rattle.rt_view.specs.inside.Known.{marked}
+use Rattle.rt_view.specs.inside.ChildChain.{marked}
 use Rattle.rt_view.proofs.children.list_children.Given as goal
 
 abbrev pub invariant-loop-position : goal.invariant-loop-position

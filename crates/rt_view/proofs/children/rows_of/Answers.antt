@@ -3,7 +3,7 @@ use Rattle.std.specs.List.{AllByRecursion}
 use Rattle.std.specs.Option.{option_copied}
 use Rattle.rt_query.specs.declared.row.Row.{Row}
 use Rattle.rt_chain.specs.Chains.{in_half}
-use Rattle.rt_view.specs.inside.Known.{Walks, near_cut}
+use Rattle.rt_view.specs.inside.ChildChain.{Walks, near_cut}
 use Rattle.rt_view.proofs.KnownLaws.{marked-right}
 use Rattle.rt_view.proofs.KnownWalks.{among, near_length, walk_begins, walk_done, walk_more, walk_next, walk_on}
 use Rattle.rt_view.proofs.children.rows_of.Goals as goal

@@ -1,6 +1,6 @@
 use Rattle.std.proofs.Common.{◌-◌, length}
 use Rattle.rt_chain.specs.Chains.{in_half}
-use Rattle.rt_view.specs.inside.Known.{Walks, near_cut}
+use Rattle.rt_view.specs.inside.ChildChain.{Walks, near_cut}
 use Rattle.rt_view.proofs.children.rows_of.Given as goal
 
 abbrev pub invariant-loop-alloc : goal.invariant-loop-alloc

@@ -1,6 +1,6 @@
 use Rattle.std.proofs.Common.{◌≡◌, ◌-◌, ◌+◌, None, Some, arith, rules, subst}
 use Rattle.std.proofs.Common.{ℕ, Option}
-use Rattle.rt_view.specs.inside.Known.{Backs}
+use Rattle.rt_view.specs.inside.ChildChain.{Backs}
 use Rattle.rt_view.proofs.KnownWalks.{back_begins, back_done, back_more, back_on}
 use Rattle.rt_view.proofs.children.slot_back.Goals as goal
 

@@ -1,5 +1,5 @@
 use Rattle.std.proofs.Common.{◌-◌, ◌≤◌}
-use Rattle.rt_view.specs.inside.Known.{Backs}
+use Rattle.rt_view.specs.inside.ChildChain.{Backs}
 use Rattle.rt_view.proofs.children.slot_back.Given as goal
 
 abbrev pub invariant-loop-left : goal.invariant-loop-left

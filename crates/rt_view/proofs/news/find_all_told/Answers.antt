@@ -7,7 +7,7 @@ use Rattle.rt_tree.specs.PathTree.{Key, PathTree}
 use Rattle.rt_order.specs.Entries.{entry}
 use Rattle.rt_view.specs.declared.news.Seen.{Seen}
 use Rattle.rt_view.specs.inside.Windows.{Entries, value_at}
-use Rattle.rt_view.specs.inside.Kept.{CanAsk, entries_shown, gone_at, gone_from, noted_in, rows_in_tree}
+use Rattle.rt_view.specs.inside.ViewIndex.{CanAsk, entries_shown, gone_at, gone_from, noted_in, rows_in_tree}
 use Rattle.rt_view.specs.inside.Telling.{IsNew, IsSeen, gone_too, keys_in, put_all, told_in, told_too}
 use Rattle.rt_view.proofs.Listed.{listed-children, listed-entries, value_at-children}
 use Rattle.rt_view.proofs.OrderLaws.{can_ask, shown_ordered}

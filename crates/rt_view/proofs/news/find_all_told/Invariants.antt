@@ -1,7 +1,7 @@
 use Rattle.std.proofs.Common.{◌≡◌, take}
 use Rattle.std.specs.List.{All}
 use Rattle.rt_tree.specs.PathTree.{PathTree}
-use Rattle.rt_view.specs.inside.Kept.{entries_shown, gone_from, noted_in, rows_in_tree}
+use Rattle.rt_view.specs.inside.ViewIndex.{entries_shown, gone_from, noted_in, rows_in_tree}
 use Rattle.rt_view.specs.inside.Telling.{IsSeen, keys_in, put_all, told_in}
 use Rattle.rt_view.proofs.news.find_all_told.Given as goal
 

@@ -1,5 +1,5 @@
 use Rattle.std.proofs.Common.{◌≡◌, ◌++◌, map, drop}
-use Rattle.rt_view.specs.inside.Kept.{removed_of}
+use Rattle.rt_view.specs.inside.ViewIndex.{removed_of}
 use Rattle.rt_view.proofs.news.push_removed.Given as goal
 
 abbrev pub invariant-loop-position : goal.invariant-loop-position

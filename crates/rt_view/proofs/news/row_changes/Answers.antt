@@ -5,7 +5,7 @@ use Rattle.rt_view.specs.declared.kinds.Kind.{Kind}
 use Rattle.rt_view.specs.declared.kinds.Kind.TheVariants as kind
 use Rattle.rt_view.specs.Changes.{removals, placed_changes, is_added, is_moved}
 use Rattle.rt_view.specs.inside.Given.{change_of, is_given}
-use Rattle.rt_view.specs.inside.Kept.{entries_shown, noted_in, removed_of, rows_in_tree}
+use Rattle.rt_view.specs.inside.ViewIndex.{entries_shown, noted_in, removed_of, rows_in_tree}
 use Rattle.rt_view.specs.inside.Telling.{given_of, keys_in}
 use Rattle.rt_view.proofs.Listed.{listed-children, listed-entries}
 use Rattle.rt_view.proofs.TellLaws.{given-all, given_of-told, removed-all}

@@ -4,7 +4,7 @@ use Rattle.std.proofs.lemmas.List.Elements.{All-get_or}
 use Rattle.rt_tree.specs.PathTree.{Key}
 use Rattle.rt_tree.specs.Children.{children_of}
 use Rattle.rt_view.specs.declared.news.Seen.{Seen}
-use Rattle.rt_view.specs.inside.Kept.{SetsChild, SetsNoted}
+use Rattle.rt_view.specs.inside.ViewIndex.{SetsChild, SetsNoted}
 use Rattle.rt_view.specs.inside.Telling.{IsFit, IsSeen, keys_in}
 use Rattle.rt_view.proofs.TellLaws.{keys_in-more, next_taken}
 use Rattle.rt_view.proofs.TreeLaws.{set_more}

@@ -3,7 +3,7 @@ use Rattle.std.specs.List.{All}
 use Rattle.rt_tree.specs.PathTree.{PathTree, leaf_of}
 use Rattle.rt_tree.specs.Children.{children_of}
 use Rattle.rt_view.specs.inside.Windows.{Entries}
-use Rattle.rt_view.specs.inside.Kept.{SetsNoted}
+use Rattle.rt_view.specs.inside.ViewIndex.{SetsNoted}
 use Rattle.rt_view.specs.inside.Telling.{IsSeen, keys_in}
 use Rattle.rt_view.proofs.news.set_noted.Given as goal
 

@@ -1,7 +1,7 @@
 use Rattle.std.specs.Prelude.{◌==◌}
 use Rattle.std.proofs.Common.{◌≡◌, ◌++◌, ◌∷◌, [], length, refl, sym, ◌∙◌, rules}
 use Rattle.rt_view.specs.declared.change.Change.TheVariants.{Value}
-use Rattle.rt_view.specs.inside.Kept.{changes_to, entries_shown}
+use Rattle.rt_view.specs.inside.ViewIndex.{changes_to, entries_shown}
 use Rattle.rt_view.specs.inside.Telling.{keys_in}
 use Rattle.rt_view.proofs.SeenLaws.{all_fit, all_new}
 use Rattle.rt_view.proofs.TreeLaws.{filtered_same, filtered_leaf, set_all, told_same, told_other, tree_of_children, tree_same}

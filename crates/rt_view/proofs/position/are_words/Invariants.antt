@@ -1,4 +1,4 @@
-use Rattle.rt_view.specs.inside.Kept.{AreWords}
+use Rattle.rt_view.specs.inside.ViewIndex.{AreWords}
 use Rattle.rt_view.proofs.position.are_words.Given as goal
 
 abbrev pub invariant-loop-key : goal.invariant-loop-key

@@ -1,5 +1,5 @@
 use Rattle.std.specs.Prelude.{◌≡◌, ◌++◌}
-use Rattle.rt_view.specs.inside.Kept.{entries_of}
+use Rattle.rt_view.specs.inside.ViewIndex.{entries_of}
 use Rattle.rt_view.proofs.position.entries_of.Given as goal
 
 abbrev pub invariant-loop-key : goal.invariant-loop-key

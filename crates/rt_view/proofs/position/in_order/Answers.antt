@@ -2,7 +2,7 @@ use Rattle.std.proofs.Common.{◌≡◌, [], ap, sym, subst, ◌∙◌, rules}
 use Rattle.rt_tree.specs.Children.{children_of}
 use Rattle.rt_query.specs.Select.{sorted_by}
 use Rattle.rt_view.specs.inside.Windows.{Entries, IsApart, IsOrdering}
-use Rattle.rt_view.specs.inside.Kept.{entries_of}
+use Rattle.rt_view.specs.inside.ViewIndex.{entries_of}
 use Rattle.rt_view.proofs.Orderings.{apart_children, ordered_children}
 use Rattle.rt_view.proofs.position.in_order.Goals as goal
 

@@ -5,7 +5,7 @@ use Rattle.rt_tree.specs.Children.{children_of}
 use Rattle.rt_order.specs.Entries.{entry_cmp}
 use Rattle.rt_query.specs.Select.{sorted_by}
 use Rattle.rt_view.specs.inside.Windows.{Entries, IsWindow, rest_in, shown_in}
-use Rattle.rt_view.specs.inside.Kept.{in_order}
+use Rattle.rt_view.specs.inside.ViewIndex.{in_order}
 use Rattle.rt_view.specs.inside.Ranged.{inside}
 use Rattle.rt_view.proofs.Listed.{listed-children}
 use Rattle.rt_view.proofs.position.window_of.Goals as goal

@@ -1,6 +1,6 @@
 use Rattle.std.proofs.Common.{◌≡◌, drop}
 use Rattle.rt_view.specs.Views.{with_named}
-use Rattle.rt_view.specs.inside.Kept.{IsWindowOf}
+use Rattle.rt_view.specs.inside.ViewIndex.{IsWindowOf}
 use Rattle.rt_view.specs.inside.Telling.{KeepsSeen, kept_by}
 use Rattle.rt_view.specs.inside.Windows.{value_at, shown_in}
 use Rattle.rt_view.proofs.touch.touch_all.Given as goal

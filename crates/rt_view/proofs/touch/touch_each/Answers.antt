@@ -4,7 +4,7 @@ use Rattle.std.proofs.lemmas.Result.{IfOk-weaker}
 use Rattle.rt_order.specs.declared.index.Index.TheVariants as index
 use Rattle.rt_tree.specs.PathTree.{Key, PathTree, put}
 use Rattle.rt_view.specs.Views.{with_named}
-use Rattle.rt_view.specs.inside.Kept.{rows_in_tree, stands_in}
+use Rattle.rt_view.specs.inside.ViewIndex.{rows_in_tree, stands_in}
 use Rattle.rt_view.specs.inside.Telling.{AllSeen, kept_by}
 use Rattle.rt_view.specs.inside.Windows.{value_at}
 use Rattle.rt_view.proofs.Listed.{value_at-children}

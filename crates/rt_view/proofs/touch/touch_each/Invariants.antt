@@ -1,6 +1,6 @@
 use Rattle.std.proofs.Common.{◌≡◌, drop}
 use Rattle.rt_view.specs.Views.{with_named}
-use Rattle.rt_view.specs.inside.Kept.{stands_in}
+use Rattle.rt_view.specs.inside.ViewIndex.{stands_in}
 use Rattle.rt_view.specs.inside.Telling.{KeepsSeen, kept_by}
 use Rattle.rt_view.proofs.touch.touch_each.Given as goal
 

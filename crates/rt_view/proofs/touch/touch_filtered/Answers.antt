@@ -4,7 +4,7 @@ use Rattle.rt_tree.specs.Children.{children_of}
 use Rattle.rt_query.specs.Select.{select}
 use Rattle.rt_view.specs.Changes.{changes}
 use Rattle.rt_view.specs.inside.Windows.{Entries, value_at, shown_in}
-use Rattle.rt_view.specs.inside.Kept.{rows_in_tree, shown_by}
+use Rattle.rt_view.specs.inside.ViewIndex.{rows_in_tree, shown_by}
 use Rattle.rt_view.specs.inside.Telling.{AreSeen}
 use Rattle.rt_view.proofs.Listed.{value_at-children}
 use Rattle.rt_view.proofs.SeenLaws.{are_seen}

@@ -4,7 +4,7 @@ use Rattle.std.proofs.lemmas.Result.{IfOk-weaker}
 use Rattle.rt_tree.specs.PathTree.{PathTree, leaf_of}
 use Rattle.rt_query.specs.Select.{select}
 use Rattle.rt_view.specs.Changes.{changes}
-use Rattle.rt_view.specs.inside.Kept.{IsOrdered, entries_shown}
+use Rattle.rt_view.specs.inside.ViewIndex.{IsOrdered, entries_shown}
 use Rattle.rt_view.specs.inside.Telling.{AreSeen}
 use Rattle.rt_view.proofs.OrderLaws.{each_seen, named_ordered}
 use Rattle.rt_view.proofs.SeenLaws.{all_new}

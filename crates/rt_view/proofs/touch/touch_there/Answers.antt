@@ -3,7 +3,7 @@ use Rattle.std.specs.Option.{option_copied}
 use Rattle.std.proofs.lemmas.Result.{IfOk-weaker}
 use Rattle.rt_tree.specs.PathTree.{PathTree, child_of, non_null}
 use Rattle.rt_tree.specs.Children.{children_of}
-use Rattle.rt_view.specs.inside.Kept.{stands_in}
+use Rattle.rt_view.specs.inside.ViewIndex.{stands_in}
 use Rattle.rt_view.specs.inside.Telling.{KeepsSeen, kept_by, seen_too}
 use Rattle.rt_view.proofs.SeenLaws.{keeps_stands}
 use Rattle.rt_view.proofs.touch.touch_there.Goals as goal

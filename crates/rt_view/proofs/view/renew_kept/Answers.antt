@@ -3,7 +3,7 @@ use Rattle.rt_tree.specs.PathTree.{PathTree}
 use Rattle.rt_query.specs.Select.{select}
 use Rattle.rt_view.specs.Changes.{changes}
 use Rattle.rt_view.specs.Views.{with_named}
-use Rattle.rt_view.specs.inside.Kept.{IsKept}
+use Rattle.rt_view.specs.inside.ViewIndex.{IsKept}
 use Rattle.rt_view.proofs.DifferLaws.{if_both}
 use Rattle.rt_view.proofs.view.renew_kept.Goals as goal
 

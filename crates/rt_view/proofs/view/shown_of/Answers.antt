@@ -1,6 +1,6 @@
 use Rattle.std.proofs.Common.{ap, map, ◌∙◌}
 use Rattle.rt_query.specs.Select.{row_of}
-use Rattle.rt_view.specs.inside.Kept.{ordered_in, window_in}
+use Rattle.rt_view.specs.inside.ViewIndex.{ordered_in, window_in}
 use Rattle.rt_view.proofs.OrderLaws.{shown_ordered}
 use Rattle.rt_view.proofs.TreeLaws.{kept_order, kept_shown, kept_tree}
 use Rattle.rt_view.proofs.view.shown_of.Goals as goal

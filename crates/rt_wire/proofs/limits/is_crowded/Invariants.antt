@@ -1,6 +1,6 @@
 use Rattle.std.proofs.Common.{◌≡◌, ◌+◌, drop}
 use Rattle.rt_wire.specs.Crowds.{marks}
-use Rattle.rt_wire.specs.declared.limits.Place.TheVariants.{Outside}
+use Rattle.rt_wire.specs.declared.limits.TextState.TheVariants.{Outside}
 use Rattle.rt_wire.specs.declared.limits.TheConstants.{MAX_MARKS}
 use Rattle.rt_wire.proofs.limits.is_crowded.Given as goal
 

@@ -3,7 +3,7 @@ use Rattle.std.specs.declared.result.Result.{Result}
 use Rattle.std.specs.declared.result.Result.TheVariants.{Ok, Err}
 use Rattle.rt_cache.specs.Brought.{Brought}
 use Rattle.rt_cache.specs.Runs.{IsAllowed, IsKept, AreAllowed, after, after_all}
-use Rattle.rt_cache.specs.declared.run.Call.{Call}
+use Rattle.rt_cache.specs.declared.run.BroughtCall.{BroughtCall}
 use Rattle.rt_cache.proofs.brought.Brought.run.Goals as goal
 
 on_err : {A E : Type 0} (r : Result A E) (P : Type 0) → P → OnErr r P
@@ -11,14 +11,14 @@ on_err (Ok x) P p = tt
 on_err (Err e) P p = p
 
 -- one call more
-after_take : (b : Brought) (calls : List Call) (n : ℕ) (d : Call) → n < length calls
+after_take : (b : Brought) (calls : List BroughtCall) (n : ℕ) (d : BroughtCall) → n < length calls
     → after_all b (take (suc n) calls) ≡ after (after_all b (take n calls)) (get_or calls n d)
 after_take b [] n d lt = absurd (omega arith)
 after_take b (c ∷ cs) zero d lt = refl
 after_take b (c ∷ cs) (suc n) d lt = after_take (after b c) cs n d (omega arith)
 
 -- the next call may be made, and then the others
-allowed_at : (b : Brought) (calls : List Call) (n : ℕ) (d : Call) → n < length calls → AreAllowed b (drop n calls)
+allowed_at : (b : Brought) (calls : List BroughtCall) (n : ℕ) (d : BroughtCall) → n < length calls → AreAllowed b (drop n calls)
     → IsAllowed (get_or calls n d) × IsKept b (get_or calls n d) × AreAllowed (after b (get_or calls n d)) (drop (suc n) calls)
 allowed_at b [] n d lt h = absurd (omega arith)
 allowed_at b (c ∷ cs) zero d lt h = h

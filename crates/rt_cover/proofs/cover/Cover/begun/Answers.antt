@@ -25,7 +25,7 @@ pub numbers_begun-requires-clause-apart : goal.numbers_begun-requires-clause-apa
 numbers_begun-requires-clause-apart g c =
     let old : Cover = c.args.self.now in
     let sound : IsSound old = subst IsSound c.self.view_is c.self.invariant in
-    let ends : Registered → Bool = by_number (g.E.Ending.ended c.args.ending.now) in
+    let ends : Registered → Bool = by_number (g.E.EndedListeners.ended c.args.ending.now) in
     subst (AreApart form_of) (sym c.requires)
     (apart_fewer form_of old.kept (lost ends old.kept old.listeners) (any_filter (λ (k : Tagged). not (is_left_form ends old.listeners k.form)) old.kept) (kept_ranges_apart old sound))
 
@@ -33,7 +33,7 @@ pub returns : goal.returns
 returns g c =
     let old : Cover = c.args.self.now in
     let sound : IsSound old = subst IsSound c.self.view_is c.self.invariant in
-    let ends : Registered → Bool = by_number (g.E.Ending.ended c.args.ending.now) in
+    let ends : Registered → Bool = by_number (g.E.EndedListeners.ended c.args.ending.now) in
     begin_numbers old sound ends c.sort_once.new.numbers.items c.sort_once.ensures.rise
     (λ p. c.sort_once.ensures.same p ∙ c.in_ok-numbers.ensures p
     ∙ (λ i. list_any (begins_after ends (c.self.view_is i).listeners p) (c.requires i))

@@ -14,7 +14,7 @@ pub replace-requires-clause-lost : goal.replace-requires-clause-lost
 replace-requires-clause-lost g c =
     let old : Cover = c.args.self.now in
     let sound : IsSound old = subst IsSound c.self.view_is c.self.invariant in
-    let ends = by_number (g.E.Ending.ended c.args.ending.now) in
+    let ends = by_number (g.E.EndedListeners.ended c.args.ending.now) in
     let gone : c.deref.result.now ≡ lost ends old.kept old.listeners = c.deref.ensures.value ∙ c.in_ok-lost.ensures.lost in
     subst (AllPairs (λ (j k : Tagged). j.tag < k.tag)) (sym gone)
     (AllPairs-filter (λ (j k : Tagged). j.tag < k.tag) (λ (k : Tagged). not (is_left_form ends old.listeners k.form)) old.kept sound.tags)
@@ -38,7 +38,7 @@ pub invariant_of-self-2 : goal.invariant_of-self-2
 invariant_of-self-2 g c =
     let old : Cover = c.args.self.now in
     let sound : IsSound old = subst IsSound c.self.view_is c.self.invariant in
-    let ends = by_number (g.E.Ending.ended c.args.ending.now) in
+    let ends = by_number (g.E.EndedListeners.ended c.args.ending.now) in
     let listeners : c.retain_left.new.self ≡ left ends old.listeners = c.retain_left.ensures ∙ (λ i. left ends (c.self.view_is i).listeners) in
     let gone : c.deref.result.now ≡ lost ends old.kept old.listeners = c.deref.ensures.value ∙ c.in_ok-lost.ensures.lost in
     let kept : c.replace.new.self
@@ -54,7 +54,7 @@ pub returns-clause-cover : goal.returns-clause-cover
 returns-clause-cover g c =
     let old : Cover = c.args.self.now in
     let sound : IsSound old = subst IsSound c.self.view_is c.self.invariant in
-    let ends = by_number (g.E.Ending.ended c.args.ending.now) in
+    let ends = by_number (g.E.EndedListeners.ended c.args.ending.now) in
     let listeners : c.retain_left.new.self ≡ left ends old.listeners = c.retain_left.ensures ∙ (λ i. left ends (c.self.view_is i).listeners) in
     let gone : c.deref.result.now ≡ lost ends old.kept old.listeners = c.deref.ensures.value ∙ c.in_ok-lost.ensures.lost in
     let kept : c.replace.new.self
@@ -68,7 +68,7 @@ pub returns-clause-delta : goal.returns-clause-delta
 returns-clause-delta g c =
     let old : Cover = c.args.self.now in
     let sound : IsSound old = subst IsSound c.self.view_is c.self.invariant in
-    let ends = by_number (g.E.Ending.ended c.args.ending.now) in
+    let ends = by_number (g.E.EndedListeners.ended c.args.ending.now) in
     (λ i. record { started = (c.of.ensures ∙ c.in_ok-lost.ensures.started) i; stopped = (c.of-2.ensures ∙ c.in_ok-lost.ensures.stopped) i })
     ∙ sym (is_ended old sound ends).delta
 
@@ -76,7 +76,7 @@ pub returns-clause-told : goal.returns-clause-told
 returns-clause-told g c =
     let old : Cover = c.args.self.now in
     let sound : IsSound old = subst IsSound c.self.view_is c.self.invariant in
-    let ends = by_number (g.E.Ending.ended c.args.ending.now) in
+    let ends = by_number (g.E.EndedListeners.ended c.args.ending.now) in
     let same : record { started = c.of.result; stopped = c.of-2.result } ≡ difference old (with_listeners old (left ends old.listeners)) =
     (λ i. record { started = (c.of.ensures ∙ c.in_ok-lost.ensures.started) i; stopped = (c.of-2.ensures ∙ c.in_ok-lost.ensures.stopped) i })
     ∙ sym (is_ended old sound ends).delta in

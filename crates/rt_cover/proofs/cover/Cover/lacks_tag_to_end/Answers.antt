@@ -16,7 +16,7 @@ returns-then-listeners-room g c =
     let same : length old.listeners ≡ length c.self.inside.listeners = (λ i. length (sym c.self.view_is i).listeners) in
     let count : length c.as_slice-listeners.result.now ≡ length c.self.inside.listeners = ap length c.as_slice-listeners.ensures in
     let few : length old.listeners ≤ c.self.inside.last_tag - c.self.inside.given = omega (arith, c.if-listeners-room.true, count, same) in
-    sym (none_lacks old c.self.inside.given (c.self.inside.last_tag - c.self.inside.given) (by_number (g.E.Ending.ended c.args.ending.now)) sound next is few)
+    sym (none_lacks old c.self.inside.given (c.self.inside.last_tag - c.self.inside.given) (by_number (g.E.EndedListeners.ended c.args.ending.now)) sound next is few)
 
 pub returns : goal.returns
 returns g c =
@@ -28,5 +28,5 @@ returns g c =
     let ls : c.as_slice-listeners.result.now ≡ old.listeners = c.as_slice-listeners.ensures ∙ (λ i. (c.self.view_is i).listeners) in
     let kept : c.as_slice.result.now ≡ old.kept = c.as_slice.ensures ∙ (λ i. (c.self.view_is i).kept) in
     c.exceeds.ensures
-    ∙ (λ i. nat_lt (c.self.inside.last_tag - c.self.inside.given) (count_by (starts (by_number (g.E.Ending.ended c.args.ending.now)) (kept i) (ls i)) (ls i)))
-    ∙ lacks_by_room old c.self.inside.given (c.self.inside.last_tag - c.self.inside.given) (by_number (g.E.Ending.ended c.args.ending.now)) sound next is
+    ∙ (λ i. nat_lt (c.self.inside.last_tag - c.self.inside.given) (count_by (starts (by_number (g.E.EndedListeners.ended c.args.ending.now)) (kept i) (ls i)) (ls i)))
+    ∙ lacks_by_room old c.self.inside.given (c.self.inside.last_tag - c.self.inside.given) (by_number (g.E.EndedListeners.ended c.args.ending.now)) sound next is

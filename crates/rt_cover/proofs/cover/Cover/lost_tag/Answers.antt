@@ -24,7 +24,7 @@ returns-in_default g c = λ p.
     let n : ℕ = c.args.number in
     let there : find (λ (l : Registered). l.0 == n) old.listeners ≡ None =
     sym (ap option_copied (sym c.in_default.is) ∙ c.at.ensures ∙ (λ i. find (λ (l : Registered). l.0 == n) (c.self.view_is i).listeners)) in
-    sym (none_lost_by (by_number (g.E.Ending.ended c.args.ending.now)) old.kept old.listeners p n there)
+    sym (none_lost_by (by_number (g.E.EndedListeners.ended c.args.ending.now)) old.kept old.listeners p n there)
 
 pub is_first-requires-clause-rise : goal.is_first-requires-clause-rise
 is_first-requires-clause-rise g c =
@@ -56,13 +56,13 @@ returns-then-not-is_first g c = λ p.
     let there : find (λ (x : Registered). x.0 == n) old.listeners ≡ Some l =
     sym (ap option_copied (sym c.in-Some.is) ∙ c.at.ensures ∙ (λ i. find (λ (x : Registered). x.0 == n) (c.self.view_is i).listeners)) in
     let later : is_first old.listeners l ≡ false = sym (c.is_first.ensures ∙ (λ i. is_first (c.self.view_is i).listeners l)) ∙ c.if-not-is_first.true in
-    sym (seen_lost_by old sound (by_number (g.E.Ending.ended c.args.ending.now)) p n l there later)
+    sym (seen_lost_by old sound (by_number (g.E.EndedListeners.ended c.args.ending.now)) p n l there later)
 
 pub returns-then-is_left : goal.returns-then-is_left
 returns-then-is_left g c = λ p.
     let old : Cover = c.args.self.now in
     let sound : IsSound old = subst IsSound c.self.view_is c.self.invariant in
-    let ends : Registered → Bool = by_number (g.E.Ending.ended c.args.ending.now) in
+    let ends : Registered → Bool = by_number (g.E.EndedListeners.ended c.args.ending.now) in
     let n : ℕ = c.args.number in
     let l : Registered = c.in-Some.listener.now in
     let there : find (λ (x : Registered). x.0 == n) old.listeners ≡ Some l =
@@ -74,7 +74,7 @@ pub returns : goal.returns
 returns g c = λ p.
     let old : Cover = c.args.self.now in
     let sound : IsSound old = subst IsSound c.self.view_is c.self.invariant in
-    let ends : Registered → Bool = by_number (g.E.Ending.ended c.args.ending.now) in
+    let ends : Registered → Bool = by_number (g.E.EndedListeners.ended c.args.ending.now) in
     let n : ℕ = c.args.number in
     let l : Registered = c.in-Some.listener.now in
     let there : find (λ (x : Registered). x.0 == n) old.listeners ≡ Some l =

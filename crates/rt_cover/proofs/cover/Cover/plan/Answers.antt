@@ -20,7 +20,7 @@ pub begun-requires : goal.begun-requires
 begun-requires g c =
     let old : Cover = c.args.self.now in
     let sound : IsSound old = subst IsSound c.self.view_is c.self.invariant in
-    let ends : Registered → Bool = by_number (g.E.Ending.ended c.args.ending.now) in
+    let ends : Registered → Bool = by_number (g.E.EndedListeners.ended c.args.ending.now) in
     let ks : c.as_slice.result.now ≡ old.kept = c.as_slice.ensures ∙ (λ i. (c.self.view_is i).kept) in
     c.deref.ensures.value ∙ c.in_ok-lost.ensures ∙ (λ i. picked (λ (k : Tagged). k.tag) (ks i) (c.requires.tags i)) ∙ lost_picked old sound ends
 
@@ -35,7 +35,7 @@ pub start_at-requires-clause-room : goal.start_at-requires-clause-room
 start_at-requires-clause-room g c =
     let old : Cover = c.args.self.now in
     let sound : IsSound old = subst IsSound c.self.view_is c.self.invariant in
-    let ends : Registered → Bool = by_number (g.E.Ending.ended c.args.ending.now) in
+    let ends : Registered → Bool = by_number (g.E.EndedListeners.ended c.args.ending.now) in
     let ls : c.as_slice-2.result.now ≡ old.listeners = c.as_slice-2.ensures ∙ (λ i. (c.self.view_is i).listeners) in
     let who : picked (λ (l : Registered). l.0) c.as_slice-2.result.now c.deref-2.result.now ≡ beginners ends old.kept old.listeners =
     (λ i. picked (λ (l : Registered). l.0) (ls i) ((c.deref-2.ensures.value ∙ c.in_ok-numbers.ensures) i)) ∙ begin_picked old sound ends in
@@ -49,7 +49,7 @@ pub returns-clause-lost : goal.returns-clause-lost
 returns-clause-lost g c =
     let old : Cover = c.args.self.now in
     let sound : IsSound old = subst IsSound c.self.view_is c.self.invariant in
-    let ends : Registered → Bool = by_number (g.E.Ending.ended c.args.ending.now) in
+    let ends : Registered → Bool = by_number (g.E.EndedListeners.ended c.args.ending.now) in
     let ks : c.as_slice.result.now ≡ old.kept = c.as_slice.ensures ∙ (λ i. (c.self.view_is i).kept) in
     let gone : c.in_ok-lost.lost.items ≡ lost ends old.kept old.listeners =
     c.in_ok-lost.ensures ∙ (λ i. picked (λ (k : Tagged). k.tag) (ks i) (c.requires.tags i)) ∙ lost_picked old sound ends in
@@ -59,7 +59,7 @@ pub returns-clause-stopped : goal.returns-clause-stopped
 returns-clause-stopped g c =
     let old : Cover = c.args.self.now in
     let sound : IsSound old = subst IsSound c.self.view_is c.self.invariant in
-    let ends : Registered → Bool = by_number (g.E.Ending.ended c.args.ending.now) in
+    let ends : Registered → Bool = by_number (g.E.EndedListeners.ended c.args.ending.now) in
     let ks : c.as_slice.result.now ≡ old.kept = c.as_slice.ensures ∙ (λ i. (c.self.view_is i).kept) in
     let gone : c.in_ok-lost.lost.items ≡ lost ends old.kept old.listeners =
     c.in_ok-lost.ensures ∙ (λ i. picked (λ (k : Tagged). k.tag) (ks i) (c.requires.tags i)) ∙ lost_picked old sound ends in
@@ -69,7 +69,7 @@ pub returns-clause-kept : goal.returns-clause-kept
 returns-clause-kept g c =
     let old : Cover = c.args.self.now in
     let sound : IsSound old = subst IsSound c.self.view_is c.self.invariant in
-    let ends : Registered → Bool = by_number (g.E.Ending.ended c.args.ending.now) in
+    let ends : Registered → Bool = by_number (g.E.EndedListeners.ended c.args.ending.now) in
     let ls : c.as_slice-2.result.now ≡ old.listeners = c.as_slice-2.ensures ∙ (λ i. (c.self.view_is i).listeners) in
     let who : picked (λ (l : Registered). l.0) c.as_slice-2.result.now c.deref-2.result.now ≡ beginners ends old.kept old.listeners =
     (λ i. picked (λ (l : Registered). l.0) (ls i) ((c.deref-2.ensures.value ∙ c.in_ok-numbers.ensures) i)) ∙ begin_picked old sound ends in
@@ -80,7 +80,7 @@ pub returns-clause-started : goal.returns-clause-started
 returns-clause-started g c =
     let old : Cover = c.args.self.now in
     let sound : IsSound old = subst IsSound c.self.view_is c.self.invariant in
-    let ends : Registered → Bool = by_number (g.E.Ending.ended c.args.ending.now) in
+    let ends : Registered → Bool = by_number (g.E.EndedListeners.ended c.args.ending.now) in
     let ls : c.as_slice-2.result.now ≡ old.listeners = c.as_slice-2.ensures ∙ (λ i. (c.self.view_is i).listeners) in
     let who : picked (λ (l : Registered). l.0) c.as_slice-2.result.now c.deref-2.result.now ≡ beginners ends old.kept old.listeners =
     (λ i. picked (λ (l : Registered). l.0) (ls i) ((c.deref-2.ensures.value ∙ c.in_ok-numbers.ensures) i)) ∙ begin_picked old sound ends in
@@ -91,7 +91,7 @@ pub returns-clause-given : goal.returns-clause-given
 returns-clause-given g c =
     let old : Cover = c.args.self.now in
     let sound : IsSound old = subst IsSound c.self.view_is c.self.invariant in
-    let ends : Registered → Bool = by_number (g.E.Ending.ended c.args.ending.now) in
+    let ends : Registered → Bool = by_number (g.E.EndedListeners.ended c.args.ending.now) in
     let ls : c.as_slice-2.result.now ≡ old.listeners = c.as_slice-2.ensures ∙ (λ i. (c.self.view_is i).listeners) in
     let who : picked (λ (l : Registered). l.0) c.as_slice-2.result.now c.deref-2.result.now ≡ beginners ends old.kept old.listeners =
     (λ i. picked (λ (l : Registered). l.0) (ls i) ((c.deref-2.ensures.value ∙ c.in_ok-numbers.ensures) i)) ∙ begin_picked old sound ends in

@@ -5,5 +5,5 @@ use Rattle.rt_cover.proofs.cover.Cover.tags_lost.Given as goal
 
 abbrev pub invariant-loop-number : goal.invariant-loop-number
 invariant-loop-number g l = (p : ℕ → Bool)
-    → (list_any p l.tags.items || list_any (λ n. list_any (is_lost_by (by_number (g.E.Ending.ended l.ending)) l.self.listeners p n) l.self.kept) (drop l.number-index l.numbers))
-    ≡ list_any (λ n. list_any (is_lost_by (by_number (g.E.Ending.ended l.ending)) l.self.listeners p n) l.self.kept) l.numbers
+    → (list_any p l.tags.items || list_any (λ n. list_any (is_lost_by (by_number (g.E.EndedListeners.ended l.ending)) l.self.listeners p n) l.self.kept) (drop l.number-index l.numbers))
+    ≡ list_any (λ n. list_any (is_lost_by (by_number (g.E.EndedListeners.ended l.ending)) l.self.listeners p n) l.self.kept) l.numbers

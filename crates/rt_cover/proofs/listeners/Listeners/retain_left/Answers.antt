@@ -9,5 +9,5 @@ returns-in-Some g c =
     let ls = c.args.self.now in
     let ns = c.in-Some.numbers.now in
     c.end_each.ensures
-    ∙ filter_agreeing (λ (l : Registered). not (list_any (λ n. n == l.0) ns)) (λ (l : Registered). not (g.E.Ending.ended c.args.ending.now l.0)) ls
-    (All-from_contained (λ (l : Registered). not (list_any (λ n. n == l.0) ns) ≡ not (g.E.Ending.ended c.args.ending.now l.0)) ls (λ l m. ap not (sym (c.in-Some.ensures l.0))))
+    ∙ filter_agreeing (λ (l : Registered). not (list_any (λ n. n == l.0) ns)) (λ (l : Registered). not (g.E.EndedListeners.ended c.args.ending.now l.0)) ls
+    (All-from_contained (λ (l : Registered). not (list_any (λ n. n == l.0) ns) ≡ not (g.E.EndedListeners.ended c.args.ending.now l.0)) ls (λ l m. ap not (sym (c.in-Some.ensures l.0))))

@@ -4,7 +4,7 @@ use Rattle.std.specs.FinMap.Entries.{is_sorted}
 use Rattle.std.proofs.lemmas.Result.{IfOk-weaker}
 use Rattle.rt_order.specs.declared.cut.Range.{Range}
 use Rattle.rt_order.specs.Entries.{entry_cmp}
-use Rattle.rt_view.specs.inside.Known.{Known}
+use Rattle.rt_view.specs.inside.ChildChain.{ChildChain}
 use Rattle.rt_view.specs.inside.Ranged.{IsSpread, Spread, all_known, between, inner, inside}
 use Rattle.rt_view.specs.inside.Windows.{GoesBack}
 use Rattle.rt_view.proofs.RangedLaws.{either_way, goes_back, inner_of}
@@ -19,7 +19,7 @@ invariant_of-self c =
     let len : c.len.result ≡ length (inside (between s.children.from s.to) old.0) = c.len.ensures.len ∙ ap (λ (o : Spread). length (inner o).0) (sym c.self.view_is) in
     either_way c.cross_back.result _ _ (IsSpread new.from s.to new.halves s.low s.high) c.cross_back.ensures.crosses c.cross_back.ensures.err
     (λ child g. subst (λ (f : Range). IsSpread f s.to new.halves s.low s.high) (sym c.cross_back.ensures.from) (goes_back s.children.from s.to old s.low s.high c.self.invariant new.halves child rise (λ none. c.if-len-eq0.false (len ∙ none)) g).1)
-    (λ same. subst (λ (k : Known). IsSpread k.from s.to k.halves s.low s.high) (sym same) c.self.invariant)
+    (λ same. subst (λ (k : ChildChain). IsSpread k.from s.to k.halves s.low s.high) (sym same) c.self.invariant)
 
 pub returns-clause-crosses : goal.returns-clause-crosses
 returns-clause-crosses c =

@@ -4,7 +4,7 @@ use Rattle.std.specs.FinMap.Entries.{is_sorted}
 use Rattle.std.proofs.lemmas.Result.{IfOk-weaker}
 use Rattle.rt_order.specs.Entries.{entry_cmp}
 use Rattle.rt_query.specs.Select.{row_of}
-use Rattle.rt_view.specs.inside.Known.{near_cut}
+use Rattle.rt_view.specs.inside.ChildChain.{near_cut}
 use Rattle.rt_view.specs.inside.Ranged.{Spread, all_known, inner}
 use Rattle.rt_view.specs.inside.Windows.{half_in}
 use Rattle.rt_view.proofs.RangedLaws.{inner_of, near_fits, near_inner}

@@ -1,5 +1,0 @@
-use Rattle.std.proofs.Common.{length}
-use Rattle.rt_nodes.proofs.row.+descend.Given as goal
-
-abbrev pub decreases-descend : goal.decreases-descend
-decreases-descend g l = length l.rest.now

@@ -1,5 +1,0 @@
-use Rattle.std.proofs.Common.{length}
-use Rattle.rt_store.proofs.clear.+vanishes.Given as goal
-
-abbrev pub decreases-vanishes : goal.decreases-vanishes
-decreases-vanishes l = length l.rest.now

@@ -1,7 +1,0 @@
-use Rattle.std.proofs.Common.{refl}
-use Rattle.serde_json.proofs.OnLiterals.{serde_json_on_literals}
-use Rattle.rt_wire.proofs.examples.depth_is_bounded.Goals as goal
-
-pub returns : goal.returns
-unfolding serde_json_on_literals
-returns c = (refl, refl)

@@ -1,0 +1,7 @@
+use Rattle.std.proofs.Common.{refl}
+use Rattle.serde_json.proofs.OnLiterals.{serde_json_on_literals}
+use Rattle.rt_wire.proofs.laws.spellings_are_entries.Goals as goal
+
+pub returns : goal.returns
+unfolding serde_json_on_literals
+returns c = refl
