@@ -57,116 +57,7 @@ impl ClientMessage {
         ensures fault { IfErr result (λ e. (client_message text.now ≡ Err e)
             ⊎ (e ≡ WireError.NoMemory)) }
     {
-        ClientMessage::of(alloc, json_value(alloc, text)?)
-    }
-
-    // The message that a JSON value is.
-    fn of(alloc: Global, message: Value) -> Result<ClientMessage, WireError>
-        ensures ok { IfOk result (λ m. client_message_in (view message) ≡ Ok m) }
-        ensures fault { IfErr result (λ e. (client_message_in (view message) ≡ Err e)
-            ⊎ (e ≡ WireError.NoMemory)) }
-    {
-        match kind(&message)? {
-            "hello" => ClientMessage::hello(&message),
-            "listen" => ClientMessage::listen(alloc, &message),
-            "unlisten" => ClientMessage::unlisten(&message),
-            "put" => ClientMessage::put(alloc, message),
-            "merge" => ClientMessage::merge(alloc, message),
-            "od-put" => ClientMessage::od_put(alloc, message),
-            "od-merge" => ClientMessage::od_merge(alloc, message),
-            "od-cancel" => ClientMessage::od_cancel(alloc, &message),
-            _ => Err(WireError::UnknownKind),
-        }
-    }
-
-    fn hello(message: &Value) -> Result<ClientMessage, WireError>
-        ensures { result ≡ hello_in (view message.now) }
-    {
-        let version = number(message, "version")?;
-        Ok(ClientMessage::Hello { version })
-    }
-
-    fn listen(alloc: Global, message: &Value) -> Result<ClientMessage, WireError>
-        ensures ok { IfOk result (λ m. listen_in (view message.now) ≡ Ok m) }
-        ensures fault { IfErr result (λ e. (listen_in (view message.now) ≡ Err e)
-            ⊎ (e ≡ WireError.NoMemory)) }
-    {
-        let tag = number(message, "tag")?;
-        let path = path(alloc, message)?;
-        let query = listened(alloc, path, message)?;
-        Ok(ClientMessage::Listen { tag, query })
-    }
-
-    fn unlisten(message: &Value) -> Result<ClientMessage, WireError>
-        ensures { result ≡ unlisten_in (view message.now) }
-    {
-        let tag = number(message, "tag")?;
-        Ok(ClientMessage::Unlisten { tag })
-    }
-
-    fn put(alloc: Global, message: Value) -> Result<ClientMessage, WireError>
-        ensures ok { IfOk result (λ m. put_message (view message) ≡ Ok m) }
-        ensures fault { IfErr result (λ e. (put_message (view message) ≡ Err e)
-            ⊎ (e ≡ WireError.NoMemory)) }
-    {
-        let id = number(&message, "id")?;
-        let action = put_action(alloc, message)?;
-        Ok(ClientMessage::Ask {
-            id,
-            asked: Asked::Now(action),
-        })
-    }
-
-    fn merge(alloc: Global, message: Value) -> Result<ClientMessage, WireError>
-        ensures ok { IfOk result (λ m. merge_message (view message) ≡ Ok m) }
-        ensures fault { IfErr result (λ e. (merge_message (view message) ≡ Err e)
-            ⊎ (e ≡ WireError.NoMemory)) }
-    {
-        let id = number(&message, "id")?;
-        let action = merge_action(alloc, message)?;
-        Ok(ClientMessage::Ask {
-            id,
-            asked: Asked::Now(action),
-        })
-    }
-
-    fn od_put(alloc: Global, message: Value) -> Result<ClientMessage, WireError>
-        ensures ok { IfOk result (λ m. od_put_message (view message) ≡ Ok m) }
-        ensures fault { IfErr result (λ e. (od_put_message (view message) ≡ Err e)
-            ⊎ (e ≡ WireError.NoMemory)) }
-    {
-        let id = number(&message, "id")?;
-        let action = put_action(alloc, message)?;
-        Ok(ClientMessage::Ask {
-            id,
-            asked: Asked::AtDisconnect(Ending::Run(action)),
-        })
-    }
-
-    fn od_merge(alloc: Global, message: Value) -> Result<ClientMessage, WireError>
-        ensures ok { IfOk result (λ m. od_merge_message (view message) ≡ Ok m) }
-        ensures fault { IfErr result (λ e. (od_merge_message (view message) ≡ Err e)
-            ⊎ (e ≡ WireError.NoMemory)) }
-    {
-        let id = number(&message, "id")?;
-        let action = merge_action(alloc, message)?;
-        Ok(ClientMessage::Ask {
-            id,
-            asked: Asked::AtDisconnect(Ending::Run(action)),
-        })
-    }
-
-    fn od_cancel(alloc: Global, message: &Value) -> Result<ClientMessage, WireError>
-        ensures ok { IfOk result (λ m. od_cancel_message (view message.now) ≡ Ok m) }
-        ensures fault { IfErr result (λ e. (od_cancel_message (view message.now) ≡ Err e)
-            ⊎ (e ≡ WireError.NoMemory)) }
-    {
-        let id = number(message, "id")?;
-        let path = path(alloc, message)?;
-        Ok(ClientMessage::Ask {
-            id,
-            asked: Asked::AtDisconnect(Ending::Cancel(path)),
-        })
+        message_of(alloc, json_value(alloc, text)?)
     }
 
     /// The message as compact JSON, with the members of each object in the order of the bytes of
@@ -177,26 +68,135 @@ impl ClientMessage {
             → IsClientText self.now (string_bytes text)) }
     {
         let mut out = new_writer(alloc)?;
-        self.write(alloc, &mut out)?;
+        write_message(alloc, &mut out, self)?;
         Ok(text_of(out))
     }
+}
 
-    fn write(&self, alloc: Global, out: &mut Writer) -> Result<(), AllocError>
-        ensures put { OnOk result (PutsValue (client_data self.now) out.old out.new) }
-        ensures standing { OnOk result (IsStandingRequest self.now) }
-    {
-        match self {
-            ClientMessage::Hello { version } => write_hello(out, *version),
-            ClientMessage::Listen { tag, query } => write_listen(out, *tag, query),
-            ClientMessage::Unlisten { tag } => write_unlisten(out, *tag),
-            ClientMessage::Ask { id, asked } => match asked {
-                Asked::Now(action) => write_action(alloc, out, *id, "put", "merge", action),
-                Asked::AtDisconnect(Ending::Run(action)) => {
-                    write_action(alloc, out, *id, "od-put", "od-merge", action)
-                }
-                Asked::AtDisconnect(Ending::Cancel(path)) => write_cancel(out, *id, path),
-            },
-        }
+// The message that a JSON value is.
+fn message_of(alloc: Global, message: Value) -> Result<ClientMessage, WireError>
+    ensures ok { IfOk result (λ m. client_message_in (view message) ≡ Ok m) }
+    ensures fault { IfErr result (λ e. (client_message_in (view message) ≡ Err e)
+        ⊎ (e ≡ WireError.NoMemory)) }
+{
+    match kind(&message)? {
+        "hello" => read_hello(&message),
+        "listen" => read_listen(alloc, &message),
+        "unlisten" => read_unlisten(&message),
+        "put" => read_put(alloc, message),
+        "merge" => read_merge(alloc, message),
+        "od-put" => read_od_put(alloc, message),
+        "od-merge" => read_od_merge(alloc, message),
+        "od-cancel" => read_od_cancel(alloc, &message),
+        _ => Err(WireError::UnknownKind),
+    }
+}
+
+fn read_hello(message: &Value) -> Result<ClientMessage, WireError>
+    ensures { result ≡ hello_in (view message.now) }
+{
+    let version = number(message, "version")?;
+    Ok(ClientMessage::Hello { version })
+}
+
+fn read_listen(alloc: Global, message: &Value) -> Result<ClientMessage, WireError>
+    ensures ok { IfOk result (λ m. listen_in (view message.now) ≡ Ok m) }
+    ensures fault { IfErr result (λ e. (listen_in (view message.now) ≡ Err e)
+        ⊎ (e ≡ WireError.NoMemory)) }
+{
+    let tag = number(message, "tag")?;
+    let path = path(alloc, message)?;
+    let query = listened(alloc, path, message)?;
+    Ok(ClientMessage::Listen { tag, query })
+}
+
+fn read_unlisten(message: &Value) -> Result<ClientMessage, WireError>
+    ensures { result ≡ unlisten_in (view message.now) }
+{
+    let tag = number(message, "tag")?;
+    Ok(ClientMessage::Unlisten { tag })
+}
+
+fn read_put(alloc: Global, message: Value) -> Result<ClientMessage, WireError>
+    ensures ok { IfOk result (λ m. put_message (view message) ≡ Ok m) }
+    ensures fault { IfErr result (λ e. (put_message (view message) ≡ Err e)
+        ⊎ (e ≡ WireError.NoMemory)) }
+{
+    let id = number(&message, "id")?;
+    let action = put_action(alloc, message)?;
+    Ok(ClientMessage::Ask {
+        id,
+        asked: Asked::Now(action),
+    })
+}
+
+fn read_merge(alloc: Global, message: Value) -> Result<ClientMessage, WireError>
+    ensures ok { IfOk result (λ m. merge_message (view message) ≡ Ok m) }
+    ensures fault { IfErr result (λ e. (merge_message (view message) ≡ Err e)
+        ⊎ (e ≡ WireError.NoMemory)) }
+{
+    let id = number(&message, "id")?;
+    let action = merge_action(alloc, message)?;
+    Ok(ClientMessage::Ask {
+        id,
+        asked: Asked::Now(action),
+    })
+}
+
+fn read_od_put(alloc: Global, message: Value) -> Result<ClientMessage, WireError>
+    ensures ok { IfOk result (λ m. od_put_message (view message) ≡ Ok m) }
+    ensures fault { IfErr result (λ e. (od_put_message (view message) ≡ Err e)
+        ⊎ (e ≡ WireError.NoMemory)) }
+{
+    let id = number(&message, "id")?;
+    let action = put_action(alloc, message)?;
+    Ok(ClientMessage::Ask {
+        id,
+        asked: Asked::AtDisconnect(Ending::Run(action)),
+    })
+}
+
+fn read_od_merge(alloc: Global, message: Value) -> Result<ClientMessage, WireError>
+    ensures ok { IfOk result (λ m. od_merge_message (view message) ≡ Ok m) }
+    ensures fault { IfErr result (λ e. (od_merge_message (view message) ≡ Err e)
+        ⊎ (e ≡ WireError.NoMemory)) }
+{
+    let id = number(&message, "id")?;
+    let action = merge_action(alloc, message)?;
+    Ok(ClientMessage::Ask {
+        id,
+        asked: Asked::AtDisconnect(Ending::Run(action)),
+    })
+}
+
+fn read_od_cancel(alloc: Global, message: &Value) -> Result<ClientMessage, WireError>
+    ensures ok { IfOk result (λ m. od_cancel_message (view message.now) ≡ Ok m) }
+    ensures fault { IfErr result (λ e. (od_cancel_message (view message.now) ≡ Err e)
+        ⊎ (e ≡ WireError.NoMemory)) }
+{
+    let id = number(message, "id")?;
+    let path = path(alloc, message)?;
+    Ok(ClientMessage::Ask {
+        id,
+        asked: Asked::AtDisconnect(Ending::Cancel(path)),
+    })
+}
+
+fn write_message(alloc: Global, out: &mut Writer, message: &ClientMessage) -> Result<(), AllocError>
+    ensures put { OnOk result (PutsValue (client_data message.now) out.old out.new) }
+    ensures standing { OnOk result (IsStandingRequest message.now) }
+{
+    match message {
+        ClientMessage::Hello { version } => write_hello(out, *version),
+        ClientMessage::Listen { tag, query } => write_listen(out, *tag, query),
+        ClientMessage::Unlisten { tag } => write_unlisten(out, *tag),
+        ClientMessage::Ask { id, asked } => match asked {
+            Asked::Now(action) => write_action(alloc, out, *id, "put", "merge", action),
+            Asked::AtDisconnect(Ending::Run(action)) => {
+                write_action(alloc, out, *id, "od-put", "od-merge", action)
+            }
+            Asked::AtDisconnect(Ending::Cancel(path)) => write_cancel(out, *id, path),
+        },
     }
 }
 

@@ -50,77 +50,7 @@ impl ServerMessage {
         ensures fault { IfErr result (λ e. (server_message text.now ≡ Err e)
             ⊎ (e ≡ WireError.NoMemory)) }
     {
-        ServerMessage::of(alloc, json_value(alloc, text)?)
-    }
-
-    // The message that a JSON value is.
-    fn of(alloc: Global, message: Value) -> Result<ServerMessage, WireError>
-        ensures ok { IfOk result (λ m. server_message_in (view message) ≡ Ok m) }
-        ensures fault { IfErr result (λ e. (server_message_in (view message) ≡ Err e)
-            ⊎ (e ≡ WireError.NoMemory)) }
-    {
-        match kind(&message)? {
-            "data" => ServerMessage::data(alloc, message),
-            "data-merge" => ServerMessage::data_merge(alloc, message),
-            "push" => ServerMessage::push(alloc, message),
-            "ok" => ServerMessage::ok(&message),
-            "no" => ServerMessage::no(message),
-            "revoke" => ServerMessage::revoke(message),
-            _ => Err(WireError::UnknownKind),
-        }
-    }
-
-    fn data(alloc: Global, message: Value) -> Result<ServerMessage, WireError>
-        ensures ok { IfOk result (λ m. data_in (view message) ≡ Ok m) }
-        ensures fault { IfErr result (λ e. (data_in (view message) ≡ Err e)
-            ⊎ (e ≡ WireError.NoMemory)) }
-    {
-        let tag = number(&message, "tag")?;
-        let path = path(alloc, &message)?;
-        let tree = tree(alloc, taken(message, "value")?)?;
-        Ok(ServerMessage::Data { tag, path, tree })
-    }
-
-    fn data_merge(alloc: Global, message: Value) -> Result<ServerMessage, WireError>
-        ensures ok { IfOk result (λ m. data_merge_in (view message) ≡ Ok m) }
-        ensures fault { IfErr result (λ e. (data_merge_in (view message) ≡ Err e)
-            ⊎ (e ≡ WireError.NoMemory)) }
-    {
-        let tag = number(&message, "tag")?;
-        let entries = entries(alloc, message)?;
-        Ok(ServerMessage::DataMerge { tag, entries })
-    }
-
-    fn push(alloc: Global, message: Value) -> Result<ServerMessage, WireError>
-        ensures ok { IfOk result (λ m. push_in (view message) ≡ Ok m) }
-        ensures fault { IfErr result (λ e. (push_in (view message) ≡ Err e)
-            ⊎ (e ≡ WireError.NoMemory)) }
-    {
-        let parts = parts_in(alloc, message)?;
-        Ok(ServerMessage::Push { parts })
-    }
-
-    fn ok(message: &Value) -> Result<ServerMessage, WireError>
-        ensures { result ≡ ok_in (view message.now) }
-    {
-        let id = number(message, "id")?;
-        Ok(ServerMessage::Accepted { id })
-    }
-
-    fn no(message: Value) -> Result<ServerMessage, WireError>
-        ensures { result ≡ no_in (view message) }
-    {
-        let id = number(&message, "id")?;
-        let why = reason(message)?;
-        Ok(ServerMessage::Refused { id, why })
-    }
-
-    fn revoke(message: Value) -> Result<ServerMessage, WireError>
-        ensures { result ≡ revoke_in (view message) }
-    {
-        let tag = number(&message, "tag")?;
-        let why = reason(message)?;
-        Ok(ServerMessage::Revoked { tag, why })
+        message_of(alloc, json_value(alloc, text)?)
     }
 
     /// The message as compact JSON, with the members of each object in the order of the bytes of
@@ -131,22 +61,92 @@ impl ServerMessage {
             → IsServerText self.now (string_bytes text)) }
     {
         let mut out = new_writer(alloc)?;
-        self.write(alloc, &mut out)?;
+        write_message(alloc, &mut out, self)?;
         Ok(text_of(out))
     }
+}
 
-    fn write(&self, alloc: Global, out: &mut Writer) -> Result<(), AllocError>
-        ensures put { OnOk result (PutsValue (server_data self.now) out.old out.new) }
-        ensures standing { OnOk result (IsStandingMessage self.now) }
-    {
-        match self {
-            ServerMessage::Data { tag, path, tree } => write_data(out, *tag, path, tree),
-            ServerMessage::DataMerge { tag, entries } => write_merge(alloc, out, *tag, entries),
-            ServerMessage::Push { parts } => write_push(alloc, out, parts),
-            ServerMessage::Accepted { id } => write_accepted(out, *id),
-            ServerMessage::Refused { id, why } => write_refused(out, *id, why),
-            ServerMessage::Revoked { tag, why } => write_revoked(out, *tag, why),
-        }
+// The message that a JSON value is.
+fn message_of(alloc: Global, message: Value) -> Result<ServerMessage, WireError>
+    ensures ok { IfOk result (λ m. server_message_in (view message) ≡ Ok m) }
+    ensures fault { IfErr result (λ e. (server_message_in (view message) ≡ Err e)
+        ⊎ (e ≡ WireError.NoMemory)) }
+{
+    match kind(&message)? {
+        "data" => read_data(alloc, message),
+        "data-merge" => read_data_merge(alloc, message),
+        "push" => read_push(alloc, message),
+        "ok" => read_ok(&message),
+        "no" => read_no(message),
+        "revoke" => read_revoke(message),
+        _ => Err(WireError::UnknownKind),
+    }
+}
+
+fn read_data(alloc: Global, message: Value) -> Result<ServerMessage, WireError>
+    ensures ok { IfOk result (λ m. data_in (view message) ≡ Ok m) }
+    ensures fault { IfErr result (λ e. (data_in (view message) ≡ Err e)
+        ⊎ (e ≡ WireError.NoMemory)) }
+{
+    let tag = number(&message, "tag")?;
+    let path = path(alloc, &message)?;
+    let tree = tree(alloc, taken(message, "value")?)?;
+    Ok(ServerMessage::Data { tag, path, tree })
+}
+
+fn read_data_merge(alloc: Global, message: Value) -> Result<ServerMessage, WireError>
+    ensures ok { IfOk result (λ m. data_merge_in (view message) ≡ Ok m) }
+    ensures fault { IfErr result (λ e. (data_merge_in (view message) ≡ Err e)
+        ⊎ (e ≡ WireError.NoMemory)) }
+{
+    let tag = number(&message, "tag")?;
+    let entries = entries(alloc, message)?;
+    Ok(ServerMessage::DataMerge { tag, entries })
+}
+
+fn read_push(alloc: Global, message: Value) -> Result<ServerMessage, WireError>
+    ensures ok { IfOk result (λ m. push_in (view message) ≡ Ok m) }
+    ensures fault { IfErr result (λ e. (push_in (view message) ≡ Err e)
+        ⊎ (e ≡ WireError.NoMemory)) }
+{
+    let parts = parts_in(alloc, message)?;
+    Ok(ServerMessage::Push { parts })
+}
+
+fn read_ok(message: &Value) -> Result<ServerMessage, WireError>
+    ensures { result ≡ ok_in (view message.now) }
+{
+    let id = number(message, "id")?;
+    Ok(ServerMessage::Accepted { id })
+}
+
+fn read_no(message: Value) -> Result<ServerMessage, WireError>
+    ensures { result ≡ no_in (view message) }
+{
+    let id = number(&message, "id")?;
+    let why = reason(message)?;
+    Ok(ServerMessage::Refused { id, why })
+}
+
+fn read_revoke(message: Value) -> Result<ServerMessage, WireError>
+    ensures { result ≡ revoke_in (view message) }
+{
+    let tag = number(&message, "tag")?;
+    let why = reason(message)?;
+    Ok(ServerMessage::Revoked { tag, why })
+}
+
+fn write_message(alloc: Global, out: &mut Writer, message: &ServerMessage) -> Result<(), AllocError>
+    ensures put { OnOk result (PutsValue (server_data message.now) out.old out.new) }
+    ensures standing { OnOk result (IsStandingMessage message.now) }
+{
+    match message {
+        ServerMessage::Data { tag, path, tree } => write_data(out, *tag, path, tree),
+        ServerMessage::DataMerge { tag, entries } => write_merge(alloc, out, *tag, entries),
+        ServerMessage::Push { parts } => write_push(alloc, out, parts),
+        ServerMessage::Accepted { id } => write_accepted(out, *id),
+        ServerMessage::Refused { id, why } => write_refused(out, *id, why),
+        ServerMessage::Revoked { tag, why } => write_revoked(out, *tag, why),
     }
 }
 
