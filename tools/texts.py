@@ -28,7 +28,7 @@ ERRORS = {
     "PushError": "rt_push/src/error.rt",
     "WireError": "rt_wire/src/error.rt",
     "LinkFault": "rt_link/src/error.rt",
-    "Lost": "rt_socket/src/lost.rt",
+    "Lost": "rt_socket/src/wire.rt",
 }  # docs/GUIDE.md shows each refusal of these, with its text
 PATIENCE = "rt_socket/src/patience.rt"  # the numbers that some texts name
 PROGRAMS_OF_GUIDE = ("example_guide", "example_threads", "example_link")  # docs/GUIDE.md shows texts of these, and of the applications

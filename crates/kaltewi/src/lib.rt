@@ -78,3 +78,4 @@ pub use told::{
     of_kinds,
 };
 pub use trees::{Entries, Key, Leaf, LeafRef, NoSlot, OrdMap, Path, Tree};
+pub use trees::{tree_from_value, tree_of_value, value_of_tree, write_leaf, write_tree};

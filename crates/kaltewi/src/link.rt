@@ -289,4 +289,4 @@ pub use rt_link::link_crossing_law;
 ///     }
 /// }
 /// ```
-pub use rt_link::{Connection, Lost, Passed, Turn};
+pub use rt_link::{Connection, LinkTurn, Lost, Passed};

@@ -152,7 +152,7 @@ pub use rt_peer::Peer;
 ///     peer.held(connection)
 /// }
 /// ```
-pub use rt_peer::Held;
+pub use rt_peer::ConnectionLoad;
 
 /// What a server sends, and to which connection.
 ///

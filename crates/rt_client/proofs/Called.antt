@@ -12,7 +12,7 @@ use Rattle.rt_world.specs.Answers.{step_by, step, done_report}
 use Rattle.rt_sync.specs.Core.{Applies, refusal_in}
 use Rattle.rt_mail.specs.declared.item.Item.{Item}
 use Rattle.rt_mail.specs.declared.item.Item.TheVariants as item
-use Rattle.rt_mail.specs.declared.receipt.Receipt.{Receipt}
+use Rattle.rt_mail.specs.declared.item.Receipt.{Receipt}
 use Rattle.rt_mail.specs.Lanes.{Line, Ring, with_items, signed_lane}
 use Rattle.rt_world.specs.declared.step.Call.{Call}
 use Rattle.rt_world.specs.declared.step.Call.TheVariants as call

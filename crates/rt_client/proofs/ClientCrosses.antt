@@ -5,8 +5,8 @@ use Rattle.rt_mail.proofs.Crosses.{history_send}
 use Rattle.rt_mail.specs.contracts.mirror.Mirror as mirror
 use Rattle.rt_mail.specs.contracts.lane.Inbox as inbox
 use Rattle.rt_mail.specs.contracts.lane.Lane as lane
-use Rattle.rt_mail.specs.contracts.snapshots.Snapshot as snapshot
-use Rattle.rt_mail.specs.contracts.snapshots.Snapshots as snapshots
+use Rattle.rt_mail.specs.contracts.mirror.Snapshot as snapshot
+use Rattle.rt_mail.specs.contracts.mirror.Snapshots as snapshots
 use Rattle.rt_cache.specs.contracts.regions.Region as region
 use Rattle.rt_cache.specs.contracts.regions.BoxedRegion as boxed_region
 use Rattle.rt_cache.specs.contracts.windows.Window as window

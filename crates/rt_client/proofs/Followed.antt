@@ -6,7 +6,7 @@ use Rattle.std.proofs.lemmas.List.Sums.{fold-append}
 use Rattle.rt_world.specs.declared.report.Report.{Report}
 use Rattle.rt_world.specs.World.{World}
 use Rattle.rt_mail.specs.declared.item.Item.TheVariants as item
-use Rattle.rt_mail.specs.declared.receipt.Receipt.{Receipt}
+use Rattle.rt_mail.specs.declared.item.Receipt.{Receipt}
 use Rattle.rt_mail.specs.Mailbox.{Known, taken, known_of}
 use Rattle.rt_mail.specs.Lanes.{Line, signed_lane}
 use Rattle.rt_world.specs.declared.step.Call.{Call}

@@ -24,7 +24,7 @@ use Rattle.rt_cache.specs.Brought.{base}
 use Rattle.rt_sync.specs.Core.{without_first as without_sent}
 use Rattle.rt_mail.specs.declared.item.Item.{Item}
 use Rattle.rt_mail.specs.declared.item.Item.TheVariants as item
-use Rattle.rt_mail.specs.declared.receipt.Receipt.{Receipt}
+use Rattle.rt_mail.specs.declared.item.Receipt.{Receipt}
 use Rattle.rt_mail.specs.Lanes.{Line, signed_lane}
 use Rattle.rt_mail.specs.laws.Shows.{SelectsAgain}
 use Rattle.rt_mail.specs.Snapshots.{Known, shown_of, seen_of, after_item, after_items}

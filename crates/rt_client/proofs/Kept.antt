@@ -10,7 +10,7 @@ use Rattle.rt_world.specs.Sound.{IsSound}
 use Rattle.rt_world.specs.laws.Steps.{StaysSound, WorldsAreSound}
 use Rattle.rt_mail.specs.declared.item.Item.{Item}
 use Rattle.rt_mail.specs.declared.item.Item.TheVariants as item
-use Rattle.rt_mail.specs.declared.receipt.Receipt.{Receipt}
+use Rattle.rt_mail.specs.declared.item.Receipt.{Receipt}
 use Rattle.rt_mail.specs.Mailbox.{Known, taken, known_of}
 use Rattle.rt_mail.specs.Lanes.{Line, without_first}
 use Rattle.rt_client.specs.Seats.{reflection, told_to, told_by, receipt_of, does_close}

@@ -28,8 +28,8 @@ use Rattle.rt_world.specs.Sound.{Rises, IsSound}
 use Rattle.rt_world.specs.laws.Steps.{NotRefusedIsAllowed, RenewedIsOne, BatchesAreNotes}
 use Rattle.rt_mail.specs.declared.item.Item.{Item}
 use Rattle.rt_mail.specs.declared.item.Item.TheVariants as item
-use Rattle.rt_mail.specs.declared.receipt.Receipt.{Receipt}
-use Rattle.rt_mail.specs.declared.receipt.Receipt.TheVariants as receipt
+use Rattle.rt_mail.specs.declared.item.Receipt.{Receipt}
+use Rattle.rt_mail.specs.declared.item.Receipt.TheVariants as receipt
 use Rattle.rt_mail.specs.Mailbox.{Known, taken, known_of, signed, with_request, without_listener}
 use Rattle.rt_client.specs.Seats.{item_of, told_to, shown_by, receipts_to, reflection, does_close}
 use Rattle.rt_client.proofs.Batches.{batches_played, batches_turn}

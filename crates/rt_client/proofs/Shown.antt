@@ -17,8 +17,8 @@ use Rattle.rt_world.specs.Answers.{settled_note, settled_notes, cancelled_notes,
 use Rattle.rt_world.specs.Sound.{IsSound}
 use Rattle.rt_world.specs.laws.Steps.{NotRefusedIsAllowed, RenewedIsOne, BatchesAreNotes, StaysSound, WorldsAreSound}
 use Rattle.rt_mail.specs.declared.item.Item.TheVariants as item
-use Rattle.rt_mail.specs.declared.receipt.Receipt.{Receipt}
-use Rattle.rt_mail.specs.declared.receipt.Receipt.TheVariants as receipt
+use Rattle.rt_mail.specs.declared.item.Receipt.{Receipt}
+use Rattle.rt_mail.specs.declared.item.Receipt.TheVariants as receipt
 use Rattle.rt_mail.specs.Snapshots.{Known, signed, begun, ended, after_item, after_items}
 use Rattle.rt_client.specs.Seats.{told_to, receipts_to, told_by, told_in, does_close}
 use Rattle.rt_client.specs.laws.Showing.{seen_by, seen_in, StepShows, SnapshotsAreCore}

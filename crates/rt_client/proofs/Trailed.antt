@@ -7,7 +7,7 @@ use Rattle.rt_world.specs.World.{empty_world, limits_from}
 use Rattle.rt_query.specs.Queries.{plain}
 use Rattle.rt_mail.specs.declared.item.Item.{Item}
 use Rattle.rt_mail.specs.declared.item.Item.TheVariants as item
-use Rattle.rt_mail.specs.declared.receipt.Receipt.TheVariants.{Listened}
+use Rattle.rt_mail.specs.declared.item.Receipt.TheVariants.{Listened}
 use Rattle.rt_mail.specs.Mailbox.{Known, nothing_known, taken, known_of}
 use Rattle.rt_mail.specs.Lanes.{Line}
 use Rattle.rt_client.specs.Lanes.{new_lane, lane_of, due}

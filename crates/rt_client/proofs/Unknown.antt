@@ -21,7 +21,7 @@ use Rattle.rt_world.specs.laws.Holds.{IsSteady, EmptyIsSteady, StaysSteady, Empt
 use Rattle.rt_world.specs.laws.Holds.{TakenIsSound, TakenIsSteady}
 use Rattle.rt_world.specs.laws.Steps.{StaysSound, WorldsAreSound}
 use Rattle.rt_mail.specs.declared.item.Item.TheVariants as item
-use Rattle.rt_mail.specs.declared.receipt.Receipt.{Receipt}
+use Rattle.rt_mail.specs.declared.item.Receipt.{Receipt}
 use Rattle.rt_mail.specs.Mailbox.{nothing_known, taken, known_of}
 use Rattle.rt_mail.specs.Lanes.{Line}
 use Rattle.rt_client.specs.Seats.{item_of, reflection, receipts_to, receipt_of, told_to, told_by, caller_of, does_close}

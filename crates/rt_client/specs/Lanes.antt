@@ -7,7 +7,7 @@ use Rattle.rt_world.specs.declared.report.Note.{Note}
 use Rattle.rt_mail.specs.declared.error.MailError.{MailError}
 use Rattle.rt_mail.specs.declared.item.Item.{Item}
 use Rattle.rt_mail.specs.declared.item.Item.TheVariants as item
-use Rattle.rt_mail.specs.declared.receipt.Receipt.{Receipt}
+use Rattle.rt_mail.specs.declared.item.Receipt.{Receipt}
 use Rattle.rt_mail.specs.Mailbox.{nothing_known}
 use Rattle.rt_mail.specs.Lanes.{Line, Ring, room, with_items, without_first, why_not}
 use Rattle.rt_client.specs.Seats.{told_to}

@@ -13,8 +13,8 @@ use Rattle.rt_world.specs.World.{Listener, World}
 use Rattle.rt_world.specs.Answers.{Answer, step}
 use Rattle.rt_mail.specs.declared.item.Item.{Item}
 use Rattle.rt_mail.specs.declared.item.Item.TheVariants as item
-use Rattle.rt_mail.specs.declared.receipt.Receipt.{Receipt}
-use Rattle.rt_mail.specs.declared.receipt.Receipt.TheVariants.{Listened, Unlistened, Wrote, Asked}
+use Rattle.rt_mail.specs.declared.item.Receipt.{Receipt}
+use Rattle.rt_mail.specs.declared.item.Receipt.TheVariants.{Listened, Unlistened, Wrote, Asked}
 use Rattle.rt_mail.specs.Mailbox.{Children, Known}
 
 -- ---- what the core knows of a seat

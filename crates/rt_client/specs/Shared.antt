@@ -8,7 +8,7 @@ use Rattle.rt_world.specs.Answers.{Answer, step}
 use Rattle.rt_world.specs.Limited.{IsWithin}
 use Rattle.rt_world.specs.Sound.{IsSound}
 use Rattle.rt_world.specs.laws.Holds.{IsSteady}
-use Rattle.rt_mail.specs.declared.receipt.Receipt.{Receipt}
+use Rattle.rt_mail.specs.declared.item.Receipt.{Receipt}
 use Rattle.rt_mail.specs.Mailbox.{Known, nothing_known, known_of}
 use Rattle.rt_mail.specs.Lanes.{Line, signed_lane}
 use Rattle.rt_client.specs.Seats.{reflection, told_to, receipt_of, does_close}

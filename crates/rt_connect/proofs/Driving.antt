@@ -3,14 +3,14 @@ use Rattle.std.proofs.Common.{◌≡◌, ◌++◌, ℕ, List, Option, Some, None
 use Rattle.std.proofs.Common.{refl, sym, ap, subst, ◌∙◌, append_assoc, string_bytes}
 use Rattle.std.specs.Prelude.{OnOk, IfOk, IfSome, String, Bool, if◌then◌else◌, is_some}
 use Rattle.std.specs.declared.alloc.Global.{Global}
-use Rattle.rt_socket.specs.declared.lost.Lost.{Lost as SocketLost}
+use Rattle.rt_socket.specs.declared.wire.Lost.{Lost as SocketLost}
 use Rattle.rt_world.specs.declared.step.Step.TheVariants.{Connected, Disconnected}
 use Rattle.rt_client.specs.Calls.{Locked}
 use Rattle.rt_lines.specs.inside.Appending.{Appends}
-use Rattle.rt_connect.specs.declared.handshake.Lost.{Lost}
-use Rattle.rt_connect.specs.declared.link.Heard.{Heard}
-use Rattle.rt_connect.specs.declared.link.Heard.TheVariants as heard
-use Rattle.rt_connect.specs.declared.link.Told.{Told}
+use Rattle.rt_connect.specs.declared.link.Lost.{Lost}
+use Rattle.rt_connect.specs.declared.link.ServerEvent.{ServerEvent}
+use Rattle.rt_connect.specs.declared.link.ServerEvent.TheVariants as heard
+use Rattle.rt_connect.specs.declared.link.ServerFrame.{ServerFrame}
 use Rattle.rt_connect.specs.Doing.{Seats, disconnected}
 use Rattle.rt_connect.specs.Driving.{HasSent, PrintsHeard, PrintsLost, PrintsStep}
 use Rattle.rt_connect.specs.Driving.{PrintsTaken, PrintsTold, goes_on}
@@ -41,12 +41,12 @@ lost_text o m n why seats now (Ok v) same first step h = (
 lost_text o m n why seats now (Err e) same first step h = tt
 
 -- a message was heard
-pub told_text : (o m n taken : List ℕ) (h : Heard) (told : Told) (seats now : Seats)
-    → h ≡ heard.Told told → now ≡ seats → m ≡ o ++ taken → PrintsTaken told taken
+pub told_text : (o m n taken : List ℕ) (h : ServerEvent) (told : ServerFrame) (seats now : Seats)
+    → h ≡ heard.ServerFrame told → now ≡ seats → m ≡ o ++ taken → PrintsTaken told taken
     → ((rest : List ℕ) × (n ≡ m ++ rest) × PrintsTold now rest)
     → ((text : List ℕ) × (n ≡ o ++ text) × PrintsHeard h seats text)
 told_text o m n taken h told seats now is same first takes (rest, second, tells) =
-    let all : PrintsHeard (heard.Told told) seats (taken ++ rest) =
+    let all : PrintsHeard (heard.ServerFrame told) seats (taken ++ rest) =
     (taken, rest, takes, subst (λ s. PrintsTold s rest) same tells, refl) in (
       taken ++ rest,
       both o m n taken rest first second,
@@ -54,7 +54,7 @@ told_text o m n taken h told seats now is same first takes (rest, second, tells)
     )
 
 -- the end was heard
-pub ended_text : (o n : List ℕ) (h : Heard) (why : Lost) (seats : Seats) → h ≡ heard.Ended why
+pub ended_text : (o n : List ℕ) (h : ServerEvent) (why : Lost) (seats : Seats) → h ≡ heard.Ended why
     → ((text : List ℕ) × (n ≡ o ++ text) × PrintsLost seats text)
     → ((text : List ℕ) × (n ≡ o ++ text) × PrintsHeard h seats text)
 ended_text o n h why seats is (text, more, lost) =
@@ -106,10 +106,10 @@ lost_at_once r mid new l o m n why seats now is same first step h =
     (subst (λ o. IfSome o (λ x. OnOk r (new ≡ None → (text : List ℕ) × (n ≡ m ++ text) × PrintsLost now text))) is h)
 
 -- a connection stands where what was heard is no end
-pub stands_so : {E L : Type 0} (r : Result Bool E) (h : Heard) (old new : Option L) (l : L) → old ≡ Some l
+pub stands_so : {E L : Type 0} (r : Result Bool E) (h : ServerEvent) (old new : Option L) (l : L) → old ≡ Some l
     → IfOk r (λ s. s ≡ goes_on h) → OnOk r (new ≡ (if goes_on h then old else None))
     → IfOk r (λ s. s ≡ is_some new)
-stands_so (Ok s) (heard.Told told) old new l is stands left = stands ∙ sym (ap is_some (left ∙ is))
+stands_so (Ok s) (heard.ServerFrame told) old new l is stands left = stands ∙ sym (ap is_some (left ∙ is))
 stands_so (Ok s) (heard.Ended why) old new l is stands left = stands ∙ sym (ap is_some left)
 stands_so (Err e) h old new l is stands left = tt
 

@@ -15,8 +15,8 @@ use Rattle.rt_lines.specs.Printing as lines
 use Rattle.rt_lines.specs.declared.error.Refusal.TheVariants.{Wire}
 use Rattle.rt_lines.specs.declared.order.Order.{Order}
 use Rattle.rt_lines.specs.declared.order.Order.TheVariants as kinds
-use Rattle.rt_connect.specs.declared.link.Told.{Told}
-use Rattle.rt_connect.specs.declared.link.Told.TheVariants.{Text, Binary}
+use Rattle.rt_connect.specs.declared.link.ServerFrame.{ServerFrame}
+use Rattle.rt_connect.specs.declared.link.ServerFrame.TheVariants.{Text, Binary}
 use Rattle.rt_connect.specs.Doing.{Calls, CallsSeat, ClosesAt, ClosesSeat, IsCalled, IsClosed, Obeys, Seats}
 use Rattle.rt_connect.specs.Doing.{Shows, TakesTold, open_in, seat_at}
 use Rattle.rt_connect.specs.Printing.{refusal_text}
@@ -108,7 +108,7 @@ closed_some P old new seats n place seat between after is at h = (
 
 -- ---- messages and orders
 
-pub told_text : {A E : Type 0} (P : List ℕ → Type 0) (r : Result A E) (old new : Locked) (told : Told)
+pub told_text : {A E : Type 0} (P : List ℕ → Type 0) (r : Result A E) (old new : Locked) (told : ServerFrame)
     (words w : List ℕ) → told ≡ Text words → w ≡ words
     → OnOk r ((x : List ℕ) × P x × Takes (server_message w) old new x)
     → OnOk r ((x : List ℕ) × P x × TakesTold told old new x)
@@ -117,7 +117,7 @@ told_text P r old new told words w is same h =
     subst (λ y. OnOk r ((x : List ℕ) × P x × Takes (server_message y) old new x)) same h in
     subst (λ t. OnOk r ((x : List ℕ) × P x × TakesTold t old new x)) (sym is) at
 
-pub told_binary : {A E : Type 0} (P : List ℕ → Type 0) (r : Result A E) (old : Locked) (told : Told)
+pub told_binary : {A E : Type 0} (P : List ℕ → Type 0) (r : Result A E) (old : Locked) (told : ServerFrame)
     → told ≡ Binary → OnOk r (P (lines.refusal_text (Wire NotJson)))
     → OnOk r ((x : List ℕ) × P x × TakesTold told old old x)
 told_binary P r old told is h =

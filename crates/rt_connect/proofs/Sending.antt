@@ -2,14 +2,14 @@
 use Rattle.std.proofs.Common.{◌≡◌, ℕ, ◌+◌, ◌<◌, ◌≤◌, List, [], ◌∷◌, ◌++◌, length, drop, get_or, true, false}
 use Rattle.std.proofs.Common.{Option, None, refl, sym, ap, subst, ◌∙◌}
 use Rattle.std.proofs.lemmas.List.{drop_all, drop_more}
-use Rattle.rt_socket.specs.declared.lost.Lost.{Lost}
+use Rattle.rt_socket.specs.declared.wire.Lost.{Lost}
 use Rattle.rt_wire.specs.declared.client.ClientMessage.{ClientMessage}
-use Rattle.rt_connect.specs.declared.link.Told.{Told}
+use Rattle.rt_connect.specs.declared.link.ServerFrame.{ServerFrame}
 use Rattle.rt_connect.specs.Ahead.{ReadAhead, has_way, noted_of, with_kept, with_sent}
 use Rattle.rt_connect.specs.Sending.{Awaits, Linked, MakesWay, Sends, SendsAll, text_of}
 
 -- one more came
-pub awaits_more : (len : ℕ) (a b c : ReadAhead) (ts : List Told) (t : Told) → Awaits len a ts b
+pub awaits_more : (len : ℕ) (a b c : ReadAhead) (ts : List ServerFrame) (t : ServerFrame) → Awaits len a ts b
     → has_way len b ≡ false → c ≡ with_kept t (noted_of t b) → Awaits len a (ts ++ t ∷ []) c
 awaits_more len a b c [] t h lacks is =
     (subst (λ x. has_way len x ≡ false) h lacks, subst (λ x. c ≡ with_kept t (noted_of t x)) h is)
@@ -23,13 +23,13 @@ some_came (y ∷ ys) x e = cc
 
 -- so far these came, and there is no way
 abbrev pub IsAwaiting : ℕ → ReadAhead → ReadAhead → Type 0
-IsAwaiting len old now = (came : List Told) × Awaits len old came now × (has_way len now ≡ false)
+IsAwaiting len old now = (came : List ServerFrame) × Awaits len old came now × (has_way len now ≡ false)
 
 -- one more came
 abbrev pub HasCome : ℕ → ReadAhead → ReadAhead → Type 0
-HasCome len old now = (came : List Told) × Awaits len old came now × (came ≡ [] → ⊥)
+HasCome len old now = (came : List ServerFrame) × Awaits len old came now × (came ≡ [] → ⊥)
 
-pub came_more : (len : ℕ) (a b c : ReadAhead) (t : Told) → IsAwaiting len a b
+pub came_more : (len : ℕ) (a b c : ReadAhead) (t : ServerFrame) → IsAwaiting len a b
     → c ≡ with_kept t (noted_of t b) → HasCome len a c
 came_more len a b c t h is =
     (h.0 ++ t ∷ [], awaits_more len a b c h.0 t h.1 h.2 is, some_came h.0 t)

@@ -11,11 +11,11 @@ use Rattle.rt_connect.specs.declared.link.DueAnswer.{DueAnswer}
 use Rattle.rt_connect.specs.declared.link.Name.{Name}
 use Rattle.rt_connect.specs.declared.link.Name.TheVariants.{Request, Listen}
 use Rattle.rt_connect.specs.declared.link.TheConstants.{COST, MAX_KEPT_BYTES, MAX_UNANSWERED_BYTES}
-use Rattle.rt_connect.specs.declared.link.Heard.{Heard}
-use Rattle.rt_connect.specs.declared.link.Heard.TheVariants.{Ended}
-use Rattle.rt_connect.specs.declared.link.Heard.TheVariants as heard
-use Rattle.rt_connect.specs.declared.link.Told.{Told}
-use Rattle.rt_connect.specs.declared.link.Told.TheVariants.{Text, Binary}
+use Rattle.rt_connect.specs.declared.link.ServerEvent.{ServerEvent}
+use Rattle.rt_connect.specs.declared.link.ServerEvent.TheVariants.{Ended}
+use Rattle.rt_connect.specs.declared.link.ServerEvent.TheVariants as heard
+use Rattle.rt_connect.specs.declared.link.ServerFrame.{ServerFrame}
+use Rattle.rt_connect.specs.declared.link.ServerFrame.TheVariants.{Text, Binary}
 use Rattle.rt_connect.specs.Answers.{answer_to, answered_by}
 
 -- which messages are still to be answered, in the order in which they were sent, each with how many bytes
@@ -25,7 +25,7 @@ pub record ReadAhead : Type 0 where
   pub due : List DueAnswer
   pub sent : ℕ
   pub read : ℕ
-  pub kept : List Told
+  pub kept : List ServerFrame
 
 -- nothing was sent, and nothing was read
 abbrev pub nothing_ahead : ReadAhead
@@ -89,21 +89,21 @@ all_answered names a = fold (λ b name. answered name b) a names
 -- ---- what was read ahead
 
 -- how many bytes a message has
-abbrev pub byte_count : Told → ℕ
+abbrev pub byte_count : ServerFrame → ℕ
 byte_count (Text words) = length words
 byte_count Binary = 0
 
 -- how many bytes messages take
-abbrev pub cost_of : List Told → ℕ
+abbrev pub cost_of : List ServerFrame → ℕ
 cost_of [] = 0
 cost_of (t ∷ ts) = byte_count t + COST + cost_of ts
 
 -- whether there is room for one more
-abbrev pub fits : Told → ReadAhead → Bool
+abbrev pub fits : ServerFrame → ReadAhead → Bool
 fits t a = nat_le (cost_of a.kept + byte_count t + COST) MAX_KEPT_BYTES
 
 -- one more is kept, last
-abbrev pub with_kept : Told → ReadAhead → ReadAhead
+abbrev pub with_kept : ServerFrame → ReadAhead → ReadAhead
 with_kept t a = record a { kept = a.kept ++ t ∷ [] }
 
 -- the first is taken out
@@ -117,10 +117,10 @@ abbrev pub noted : Result ServerMessage WireError → ReadAhead → ReadAhead
 noted (Ok m) a = all_answered (answered_by m) a
 noted (Err e) a = a
 
-abbrev pub noted_of : Told → ReadAhead → ReadAhead
+abbrev pub noted_of : ServerFrame → ReadAhead → ReadAhead
 noted_of (Text words) a = noted (server_message words) a
 noted_of Binary a = a
 
-abbrev pub heard_by : Heard → ReadAhead → ReadAhead
-heard_by (heard.Told t) a = noted_of t a
+abbrev pub heard_by : ServerEvent → ReadAhead → ReadAhead
+heard_by (heard.ServerFrame t) a = noted_of t a
 heard_by (Ended why) a = a

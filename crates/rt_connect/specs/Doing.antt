@@ -21,8 +21,8 @@ use Rattle.rt_lines.specs.declared.order.Order.{Order}
 use Rattle.rt_lines.specs.declared.order.Order.TheVariants as order
 use Rattle.rt_wire.specs.declared.error.WireError.TheVariants.{NotJson}
 use Rattle.rt_wire.specs.Server.{server_message}
-use Rattle.rt_connect.specs.declared.link.Told.{Told}
-use Rattle.rt_connect.specs.declared.link.Told.TheVariants.{Text, Binary}
+use Rattle.rt_connect.specs.declared.link.ServerFrame.{ServerFrame}
+use Rattle.rt_connect.specs.declared.link.ServerFrame.TheVariants.{Text, Binary}
 use Rattle.rt_connect.specs.Printing.{refusal_text}
 use Rattle.rt_connect.specs.Taking.{Takes}
 
@@ -96,7 +96,7 @@ Shows locked text =
     ⊎ ((why : ClientError) × RefusesCover locked why × (why ≢ NoMemory) × (text ≡ refusal_text why))
 
 -- a message of the server is taken; one that is no text changes nothing
-abbrev pub TakesTold : Told → Locked → Locked → List ℕ → Type 0
+abbrev pub TakesTold : ServerFrame → Locked → Locked → List ℕ → Type 0
 TakesTold (Text words) old new text = Takes (server_message words) old new text
 TakesTold Binary old new text = (new ≡ old) × (text ≡ lines.refusal_text (Wire NotJson))
 

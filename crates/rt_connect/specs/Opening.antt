@@ -7,9 +7,9 @@ use Rattle.tungstenite.specs.declared.error.Error.{Error}
 use Rattle.rt_socket.specs.Hearing.{fault_of}
 use Rattle.rt_socket.specs.declared.socket.SocketFault.{SocketFault}
 use Rattle.rt_socket.specs.declared.socket.SocketFault.TheVariants.{OutOfMemory}
-use Rattle.rt_socket.specs.declared.lost.Lost.TheVariants.{Late, NoHandshake}
-use Rattle.rt_connect.specs.declared.handshake.Lost.{Lost}
-use Rattle.rt_connect.specs.declared.handshake.Lost.TheVariants as lost
+use Rattle.rt_socket.specs.declared.wire.Lost.TheVariants.{Late, NoHandshake}
+use Rattle.rt_connect.specs.declared.link.Lost.{Lost}
+use Rattle.rt_connect.specs.declared.link.Lost.TheVariants as lost
 
 -- a client's socket that a handshake gave, of which nothing was read or sent since; a message and a frame
 -- have so many bytes at most, and the server's are not masked

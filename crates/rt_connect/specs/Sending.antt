@@ -1,10 +1,10 @@
 -- What is sent over a connection, and what is read ahead before it.
 use Rattle.std.specs.Prelude.{◌≡◌, ℕ, true, false, length, List, [], ◌∷◌, Option, None}
 use Rattle.serde_json.specs.Written.{compact_text}
-use Rattle.rt_socket.specs.declared.lost.Lost.{Lost}
+use Rattle.rt_socket.specs.declared.wire.Lost.{Lost}
 use Rattle.rt_wire.specs.ClientData.{client_data}
 use Rattle.rt_wire.specs.declared.client.ClientMessage.{ClientMessage}
-use Rattle.rt_connect.specs.declared.link.Told.{Told}
+use Rattle.rt_connect.specs.declared.link.ServerFrame.{ServerFrame}
 use Rattle.rt_connect.specs.Ahead.{ReadAhead, has_way, noted_of, with_kept, with_sent}
 
 -- the text of a message to the server
@@ -20,13 +20,13 @@ abbrev pub linked : {W : Type 0} → W → ReadAhead → Linked W
 linked wire ahead = record { wire = wire; ahead = ahead }
 
 -- these messages came, in order, while there was no way for so many bytes; each was noted and is kept
-abbrev pub Awaits : ℕ → ReadAhead → List Told → ReadAhead → Type 0
+abbrev pub Awaits : ℕ → ReadAhead → List ServerFrame → ReadAhead → Type 0
 Awaits len old [] new = new ≡ old
 Awaits len old (t ∷ ts) new = (has_way len old ≡ false) × Awaits len (with_kept t (noted_of t old)) ts new
 
 -- there is way for so many bytes: at once, and then nothing is read, or once enough was read ahead
 pub record MakesWay {W : Type 0} (len : ℕ) (old new : Linked W) : Type 0 where
-  pub came : List Told
+  pub came : List ServerFrame
   pub awaits : Awaits len old.ahead came new.ahead
   pub way : has_way len new.ahead ≡ true
   pub still : came ≡ [] → new ≡ old

@@ -9,7 +9,6 @@
 //! `rt_client`'s.
 #![tactic(auto)]
 
-mod handshake;
 mod link;
 mod seats;
 mod session;

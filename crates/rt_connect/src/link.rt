@@ -1,25 +1,33 @@
 // A connection: its wire, how far the server is behind, and what was read ahead.
-ghost use Rattle.std.specs.Prelude.{◌≡◌, [], None, Ok, true, false, IfOk, IfSome, OnOk, map};
+ghost use Rattle.std.specs.Prelude.{◌≡◌, [], None, Ok, true, false, IfOk, IfSome, OnOk, map, ℕ, List, IfErr};
 ghost use Rattle.std.specs.List.{slice_get};
+ghost use Rattle.tungstenite.specs.Heads.{Connected};
 ghost use Rattle.rt_input.specs.declared.stream.TheConstants.{MAX_MESSAGE_BYTES};
 ghost use Rattle.rt_wire.specs.Server.{server_message};
 ghost use Rattle.rt_connect.specs.Ahead.{has_way, heard_by, noted, noted_of, nothing_ahead, with_kept};
 ghost use Rattle.rt_connect.specs.Ahead.{without_first, all_answered, answered, fits, is_due, is_same, up_to};
 ghost use Rattle.rt_connect.specs.Ahead.{with_sent, byte_count};
-ghost use Rattle.rt_connect.specs.Ending.{Ends, PassesOver, end_of};
+ghost use Rattle.rt_connect.specs.Ending.{Ends, PassesOver, end_of, is_unclosed};
 ghost use Rattle.rt_connect.specs.Sending.{MakesWay, Sends, SendsAll, linked};
 ghost use Rattle.rt_connect.specs.Answers.{answer_to, answered_by};
 ghost use Rattle.rt_connect.specs.declared.link.Name.TheVariants.{Listen};
 ghost use Rattle.rt_connect.specs.Hearing.{HearsAfter, told_of};
+ghost use Rattle.rt_connect.specs.Opening.{IsOpened, is_end, unopened};
 
-use crate::handshake::Lost;
-use rt_input::MAX_MESSAGE_BYTES;
-use rt_socket::{Awaited, Heard as SocketHeard, Lost as SocketLost};
+use rt_input::{Counted, Log, MAX_MESSAGE_BYTES};
+use rt_socket::{
+    Awaited, HANDSHAKE_TICKS, Heard, Lost as SocketLost, Socket, SocketFault, TICK_MS, fault_of,
+    limits,
+};
 use rt_wire::{ClientMessage, Part, ServerMessage, WireError};
 use std::alloc::{AllocError, Global};
 use std::collections::VecDeque;
+use std::fmt;
+use std::io::{Read, Write};
 use std::marker::Model;
-use tungstenite::Utf8Bytes;
+use std::random::RandomSource;
+use tungstenite::handshake::client::{ClientError, ClientResponse, request_of};
+use tungstenite::{Error, HandshakeError, RandomKeys, Utf8Bytes, WebSocket};
 
 // A connection that stands.
 pub(crate) struct ServerLink<W> {
@@ -53,12 +61,12 @@ fn note(alloc: Global, ahead: &mut Ahead, words: &str) -> Result<(), AllocError>
 }
 
 // Notes what was heard of the server.
-fn note_heard(alloc: Global, ahead: &mut Ahead, heard: &Heard) -> Result<(), AllocError>
+fn note_heard(alloc: Global, ahead: &mut Ahead, heard: &ServerEvent) -> Result<(), AllocError>
     ensures { OnOk result (ahead.new ≡ heard_by heard.now ahead.old) }
 {
     match heard {
-        Heard::Told(Told::Text(words)) => note(alloc, ahead, words.as_str()),
-        Heard::Told(Told::Binary) | Heard::Ended(_) => Ok(()),
+        ServerEvent::Told(ServerFrame::Text(words)) => note(alloc, ahead, words.as_str()),
+        ServerEvent::Told(ServerFrame::Binary) | ServerEvent::Ended(_) => Ok(()),
     }
 }
 
@@ -75,7 +83,7 @@ impl<W: Awaited + Drop> ServerLink<W> {
     }
 
     // The next message of the server, of the wire, for which as much may be read as for any.
-    fn hear(&mut self, pings: &mut u32) -> Result<Heard, AllocError>
+    fn hear(&mut self, pings: &mut u32) -> Result<ServerEvent, AllocError>
         ensures { IfOk result (λ heard. self.new.ahead ≡ heard_by heard self.old.ahead) }
     {
         self.wire.await_message();
@@ -90,33 +98,33 @@ impl<W: Awaited + Drop> ServerLink<W> {
     }
 
     // The next message of the server: one that was read ahead, if there is one.
-    pub(crate) fn next(&mut self, pings: &mut u32) -> Result<Heard, AllocError>
-        ensures kept { IfSome (slice_get self.old.ahead.kept 0) (λ told. (result ≡ Ok (Heard.Told told))
+    pub(crate) fn next(&mut self, pings: &mut u32) -> Result<ServerEvent, AllocError>
+        ensures kept { IfSome (slice_get self.old.ahead.kept 0) (λ told. (result ≡ Ok (ServerEvent.Told told))
             × (self.new ≡ record (self.old) { ahead = without_first self.old.ahead })
             × (pings.new ≡ pings.old)) }
         ensures heard { self.old.ahead.kept ≡ [] → IfOk result (λ heard.
             self.new.ahead ≡ heard_by heard self.old.ahead) }
     {
         match self.ahead.next() {
-            Some(told) => Ok(Heard::Told(told)),
+            Some(told) => Ok(ServerEvent::Told(told)),
             None => self.hear(pings),
         }
     }
 
     // Reads one message ahead, and keeps it; answers why the connection has ended, if it has.
     fn keep_next(&mut self, pings: &mut u32) -> Result<Option<Lost>, AllocError>
-        ensures { IfOk result (λ lost. lost ≡ None → (told : Told)
+        ensures { IfOk result (λ lost. lost ≡ None → (told : ServerFrame)
             × (self.new.ahead ≡ with_kept told (noted_of told self.old.ahead))) }
     {
         match self.hear(pings)? {
-            Heard::Told(told) => {
+            ServerEvent::Told(told) => {
                 if self.ahead.keep(told)? {
                     Ok(None)
                 } else {
                     Ok(Some(Lost::Kept))
                 }
             }
-            Heard::Ended(why) => Ok(Some(why)),
+            ServerEvent::Ended(why) => Ok(Some(why)),
         }
     }
 
@@ -278,7 +286,7 @@ pub(crate) struct Ahead {
     // How many bytes were sent, and how many of them the server has read as far as its answers say.
     sent: u64,
     read: u64,
-    kept: VecDeque<Told>,
+    kept: VecDeque<ServerFrame>,
     // How many bytes what is kept takes.
     cost: usize,
 }
@@ -376,7 +384,7 @@ impl Ahead {
     }
 
     // Keeps a message that was read ahead, and answers whether there is room for it.
-    pub(crate) fn keep(&mut self, told: Told) -> Result<bool, AllocError>
+    pub(crate) fn keep(&mut self, told: ServerFrame) -> Result<bool, AllocError>
         ensures room { IfOk result (λ is_kept. is_kept ≡ fits told self.old) }
         ensures kept { IfOk result (λ is_kept. is_kept ≡ true → self.new ≡ with_kept told self.old) }
         ensures full { IfOk result (λ is_kept. is_kept ≡ false → self.new ≡ self.old) }
@@ -391,7 +399,7 @@ impl Ahead {
     }
 
     // The first message that was read ahead.
-    pub(crate) fn next(&mut self) -> Option<Told>
+    pub(crate) fn next(&mut self) -> Option<ServerFrame>
         ensures first { result ≡ slice_get self.old.kept 0 }
         ensures rest { self.new ≡ without_first self.old }
     {
@@ -408,47 +416,47 @@ pub const MAX_PINGS: u32 = 100_000;
 
 // A message of the server, which a line reads.
 #[derive(Drop)]
-pub(crate) enum Told {
+pub(crate) enum ServerFrame {
     Text(Utf8Bytes),
     Binary,
 }
 
-impl Told {
+impl ServerFrame {
     // How many bytes of it are kept.
     pub(crate) fn len(&self) -> usize
         ensures { result ≡ byte_count self.now }
     {
         match self {
-            Told::Text(words) => words.len(),
-            Told::Binary => 0,
+            ServerFrame::Text(words) => words.len(),
+            ServerFrame::Binary => 0,
         }
     }
 }
 
 // What came of a server.
 #[derive(Drop)]
-pub(crate) enum Heard {
-    Told(Told),
+pub(crate) enum ServerEvent {
+    Told(ServerFrame),
     // The connection has ended or failed.
     Ended(Lost),
 }
 
 // What was heard of a socket says; none for a ping or a pong.
-fn told_by(heard: SocketHeard) -> Option<Heard>
+fn told_by(heard: Heard) -> Option<ServerEvent>
     ensures { result ≡ told_of heard }
 {
     match heard {
-        SocketHeard::Text(words) => Some(Heard::Told(Told::Text(words))),
-        SocketHeard::Binary => Some(Heard::Told(Told::Binary)),
-        SocketHeard::Sign => None,
-        SocketHeard::Nothing => Some(Heard::Ended(Lost::Socket(SocketLost::Silent))),
-        SocketHeard::Ended(why) => Some(Heard::Ended(Lost::Socket(why))),
+        Heard::Text(words) => Some(ServerEvent::Told(ServerFrame::Text(words))),
+        Heard::Binary => Some(ServerEvent::Told(ServerFrame::Binary)),
+        Heard::Sign => None,
+        Heard::Nothing => Some(ServerEvent::Ended(Lost::Socket(SocketLost::Silent))),
+        Heard::Ended(why) => Some(ServerEvent::Ended(Lost::Socket(why))),
     }
 }
 
 // The next message of the server. Pings and pongs are passed over, so many of them: with the last the
 // connection has failed.
-pub(crate) fn hear<W: Awaited>(wire: &mut W, pings: &mut u32) -> Result<Heard, AllocError>
+pub(crate) fn hear<W: Awaited>(wire: &mut W, pings: &mut u32) -> Result<ServerEvent, AllocError>
     ensures { IfOk result (λ heard.
         HearsAfter W.hears pings.old wire.old heard pings.new wire.new) }
 {
@@ -459,17 +467,17 @@ pub(crate) fn hear<W: Awaited>(wire: &mut W, pings: &mut u32) -> Result<Heard, A
         }
         *pings -= 1;
     }
-    Ok(Heard::Ended(Lost::Pings))
+    Ok(ServerEvent::Ended(Lost::Pings))
 }
 
 // How the connection ended, where that was heard.
-fn end_of(heard: SocketHeard) -> Option<Lost>
+fn end_of(heard: Heard) -> Option<Lost>
     ensures { result ≡ end_of heard }
 {
     match heard {
-        SocketHeard::Text(_) | SocketHeard::Binary | SocketHeard::Sign => None,
-        SocketHeard::Nothing => Some(Lost::Unclosed),
-        SocketHeard::Ended(why) => Some(Lost::Socket(why)),
+        Heard::Text(_) | Heard::Binary | Heard::Sign => None,
+        Heard::Nothing => Some(Lost::Unclosed),
+        Heard::Ended(why) => Some(Lost::Socket(why)),
     }
 }
 
@@ -498,4 +506,164 @@ pub(crate) fn leave<W: Awaited>(wire: &mut W) -> Result<Lost, AllocError>
         Some(why) => Ok(Lost::Socket(why)),
         None => pass_over(wire),
     }
+}
+
+// ---- a client's handshake
+
+// A client's socket over a stream whose bytes are counted.
+pub(crate) type ClientSocket<S, N> = Socket<Counted<S>, RandomKeys<N>>;
+
+// What comes of a handshake.
+type Shaken<S, N> = Result<
+    (WebSocket<Counted<S>, RandomKeys<N>>, ClientResponse),
+    ClientError<Counted<S>, RandomKeys<N>>,
+>;
+
+// Goes on with a handshake for which a tick has passed, up to as many as it may take.
+fn shake_on<S: Read + Write + Drop, N: RandomSource + Drop>(begun: Shaken<S, N>) -> Shaken<S, N>
+    requires { IfOk begun (λ f. (key : List ℕ) × Connected key f.0) }
+    ensures { IfOk result (λ f. (key : List ℕ) × Connected key f.0) }
+{
+    let mut shaken = begun;
+    for _ in 1..HANDSHAKE_TICKS {
+        shaken = match shaken {
+            Err(HandshakeError::Interrupted(mid)) => mid.handshake(),
+            done @ (Ok(_) | Err(HandshakeError::Failure(_))) => return done,
+        };
+    }
+    shaken
+}
+
+// Why a handshake does not come about; want of memory ends a run.
+fn unopened(why: Error) -> Result<Lost, AllocError>
+    ensures why { result ≡ unopened why }
+    ensures end { IfOk result (λ lost. is_end lost ≡ false) }
+{
+    match fault_of(why) {
+        SocketFault::OutOfMemory => Err(AllocError),
+        why => Ok(Lost::Socket(SocketLost::NoHandshake(why))),
+    }
+}
+
+// The socket of a handshake that has ended, or why it does not come about.
+fn socket_of<S: Read + Write + Drop, N: RandomSource + Drop>(
+    alloc: Global,
+    shaken: Shaken<S, N>,
+) -> Result<Result<ClientSocket<S, N>, Lost>, AllocError>
+    requires { IfOk shaken (λ f. (key : List ℕ) × Connected key f.0) }
+    ensures opened { IfOk result (λ opened. IfOk opened (λ s. IsOpened MAX_MESSAGE_BYTES s.socket)) }
+    ensures why { IfOk result (λ opened. IfErr opened (λ why. is_end why ≡ false)) }
+{
+    match shaken {
+        Ok((mut socket, response)) => {
+            drop(response);
+            socket.set_config(limits(MAX_MESSAGE_BYTES));
+            Ok(Ok(Socket::new(alloc, socket)))
+        }
+        Err(HandshakeError::Failure(why)) => Ok(Err(unopened(why)?)),
+        Err(HandshakeError::Interrupted(handshake)) => {
+            drop(handshake);
+            Ok(Err(Lost::Socket(SocketLost::Late)))
+        }
+    }
+}
+
+// The socket of a stream, or why the handshake does not come about: it names this address, as
+// `ws://127.0.0.1/`; the stream is connected already. At most MAX_MESSAGE_BYTES are read for one message, which
+// may be as long.
+pub(crate) fn opened<S: Read + Write + Drop, N: RandomSource + Drop>(
+    alloc: Global,
+    random: N,
+    address: &str,
+    stream: S,
+) -> Result<Result<ClientSocket<S, N>, Lost>, AllocError>
+    ensures opened { IfOk result (λ opened. IfOk opened (λ s. IsOpened MAX_MESSAGE_BYTES s.socket)) }
+    ensures why { IfOk result (λ opened. IfErr opened (λ why. is_end why ≡ false)) }
+{
+    // Whoever calls has an address, so that only memory can lack.
+    let request = match request_of(alloc, address) {
+        Ok(request) => request,
+        Err(why) => {
+            drop(why);
+            return Err(AllocError);
+        }
+    };
+    let stream = Counted::new(stream, MAX_MESSAGE_BYTES);
+    socket_of(
+        alloc,
+        shake_on(tungstenite::client(alloc, random, request, stream)),
+    )
+}
+
+// ---- why a connection does not come about, or ends
+
+/// Why a connection does not come about, or has ended.
+pub(crate) enum Lost {
+    /// As its socket says.
+    Socket(SocketLost),
+    /// Too many pings and pongs.
+    Pings,
+    /// Too much that no line has asked for.
+    Kept,
+    /// The client closed it, and the server did not.
+    Unclosed,
+}
+
+impl Drop for Lost {
+    fn drop(self) {
+        match self {
+            Lost::Socket(_) | Lost::Pings | Lost::Kept | Lost::Unclosed => {}
+        }
+    }
+}
+
+impl Lost {
+    // Whether the server did not close it.
+    pub(crate) fn is_unclosed(&self) -> bool
+        ensures { result ≡ is_unclosed self.now }
+    {
+        match self {
+            Lost::Unclosed => true,
+            Lost::Socket(_) | Lost::Pings | Lost::Kept => false,
+        }
+    }
+}
+
+impl fmt::Display for Lost {
+    fn fmt<W: fmt::Write>(&self, f: &mut fmt::Formatter<W>) -> fmt::Result {
+        match self {
+            Lost::Socket(why) => write!(f, "{why}"),
+            Lost::Pings => write!(
+                f,
+                "{MAX_PINGS} pings and pongs came while one line was done"
+            ),
+            Lost::Kept => {
+                write!(
+                    f,
+                    "messages of more than {MAX_KEPT_BYTES} bytes came that no line has read"
+                )
+            }
+            Lost::Unclosed => {
+                write!(
+                    f,
+                    "the server did not close the connection, and said nothing for {TICK_MS} ms"
+                )
+            }
+        }
+    }
+}
+
+// ---- what a run tells of itself beside its output
+
+// Tells why a connection does not come about, or has ended.
+pub(crate) fn say_lost<L: Log>(alloc: Global, why: &Lost, log: &mut L) -> Result<(), AllocError>
+    ensures on { L.is_on log.new ≡ L.is_on log.old }
+    ensures off { L.is_on log.old ≡ false → log.new ≡ log.old }
+{
+    if !log.is_on() {
+        return Ok(());
+    }
+    let line = format!(in alloc; "{why}")?;
+    log.tell(&line);
+    Ok(())
 }

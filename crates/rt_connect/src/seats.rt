@@ -13,7 +13,7 @@ ghost use Rattle.rt_connect.specs.Telling.{FillsRing, TellsAll, TellsPlace, Tell
 ghost use Rattle.rt_connect.specs.inside.Waiting.{waiting_of, without_waiting};
 ghost use Rattle.rt_world.specs.declared.step.Step.TheVariants as step;
 
-use crate::link::Told;
+use crate::link::ServerFrame;
 use rt_client::{Call, ClientError, Seat, Shared, with_seat};
 use rt_lines::{
     Order, Refusal, write_batch, write_cancelled, write_cover, write_outcome, write_refusal,
@@ -179,14 +179,14 @@ pub(crate) fn take_told(
     out: &mut String,
     alloc: Global,
     shared: &mut Shared,
-    told: Told,
+    told: ServerFrame,
 ) -> Result<(), AllocError>
     ensures { OnOk result ((text : List ℕ) × Appends out.old out.new text
         × TakesTold told shared.old shared.new text) }
 {
     match told {
-        Told::Text(words) => take_text(out, alloc, shared, words.as_str()),
-        Told::Binary => write_refusal(out, Refusal::Wire(WireError::NotJson)),
+        ServerFrame::Text(words) => take_text(out, alloc, shared, words.as_str()),
+        ServerFrame::Binary => write_refusal(out, Refusal::Wire(WireError::NotJson)),
     }
 }
 

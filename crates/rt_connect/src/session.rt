@@ -18,8 +18,7 @@ ghost use Rattle.rt_connect.specs.Run.{bad_among};
 ghost use Rattle.rt_connect.specs.Sending.{linked};
 ghost use Rattle.rt_world.specs.declared.step.Step.TheVariants as step;
 
-use crate::handshake::{Lost, opened, say_lost};
-use crate::link::{Heard, MAX_PINGS, ServerLink, Told};
+use crate::link::{Lost, MAX_PINGS, ServerEvent, ServerFrame, ServerLink, opened, say_lost};
 use crate::seats::{
     Seats, obey, open_seats, settle_all, take_messages, take_told, tell_connected,
     tell_disconnected, tell_lost,
@@ -198,7 +197,7 @@ impl<'a, R: Wait, W: Awaited + Drop> Driven<'a, R, W> {
     }
 
     // Takes a message of the server.
-    fn take(&mut self, told: Told) -> Result<(), AllocError>
+    fn take(&mut self, told: ServerFrame) -> Result<(), AllocError>
         ensures rest { self.new ≡ record (self.old) { printed = self.new.printed } }
         ensures printed { OnOk result ((text : List ℕ) × Appends self.old.printed self.new.printed text
             × PrintsTaken told text) }
@@ -208,7 +207,7 @@ impl<'a, R: Wait, W: Awaited + Drop> Driven<'a, R, W> {
     }
 
     // Takes what was heard of the server, and answers whether the connection stands then.
-    fn take_heard<L: Log>(&mut self, heard: Heard, log: &mut L) -> Result<bool, AllocError>
+    fn take_heard<L: Log>(&mut self, heard: ServerEvent, log: &mut L) -> Result<bool, AllocError>
         ensures goes_on { IfOk result (λ stands. stands ≡ goes_on heard) }
         ensures link { OnOk result (self.new.link
             ≡ (if goes_on heard then self.old.link else None)) }
@@ -217,12 +216,12 @@ impl<'a, R: Wait, W: Awaited + Drop> Driven<'a, R, W> {
             × PrintsHeard heard self.old.seats.items text) }
     {
         match heard {
-            Heard::Told(told) => {
+            ServerEvent::Told(told) => {
                 self.take(told)?;
                 self.settle()?;
                 Ok(true)
             }
-            Heard::Ended(why) => {
+            ServerEvent::Ended(why) => {
                 let lost = self.lose_link(&why, log);
                 drop(why);
                 lost?;

@@ -26,8 +26,8 @@ use crate::visit::Visit;
 use mio::net::TcpStream;
 use rt_files::media_type;
 use rt_http::{
-    Fault, GO_ON, Incoming, Marks, Method, Refusal, Status, Turn, handshake_len, put_answer,
-    put_file_head, refusal_text,
+    Fault, GO_ON, Incoming, Marks, Method, Refusal, RequestProgress, Status, handshake_len,
+    put_answer, put_file_head, refusal_text,
 };
 use rt_hub::{Hub, MAX_WAITING_BYTES};
 use std::alloc::{AllocError, Global};
@@ -140,10 +140,10 @@ impl Asking {
             return Ok(self.read_on(left));
         }
         match self.incoming.turn() {
-            Ok(Turn::More) => self.hear(),
-            Ok(Turn::GoOn) => self.go_on(),
-            Ok(Turn::Whole) => Ok(Next::Answer),
-            Ok(Turn::Upgrade) => self.upgrade(),
+            Ok(RequestProgress::More) => self.hear(),
+            Ok(RequestProgress::GoOn) => self.go_on(),
+            Ok(RequestProgress::Whole) => Ok(Next::Answer),
+            Ok(RequestProgress::Upgrade) => self.upgrade(),
             Err(refusal) => self.refuse(refusal),
         }
     }

@@ -10,7 +10,7 @@ ghost use Rattle.rt_emulate.specs.inside.Sockets.{unsent_by, unsent_with};
 
 use crate::calls::Replay;
 use crate::ending::Ending;
-use rt_hub::{Door, Flushed, Heard, MAX_WAITING_BYTES};
+use rt_hub::{Door, DoorRead, Flushed, MAX_WAITING_BYTES};
 use rt_input::Counted;
 use rt_wire::is_crowded;
 use std::alloc::{AllocError, Global};
@@ -46,7 +46,7 @@ pub(crate) struct Socket {
     text: Utf8Bytes,
     /// Whether what was heard last was binary.
     pub(crate) was_binary: bool,
-    said: Heard,
+    said: DoorRead,
     flushed: Flushed,
     /// How many bytes the texts have that it has taken since all that it had taken was sent.
     pub(crate) unsent: usize,
@@ -91,7 +91,7 @@ impl Socket {
             socket,
             text: Utf8Bytes::new(),
             was_binary: false,
-            said: Heard::Nothing,
+            said: DoorRead::Nothing,
             flushed: Flushed::Done,
             unsent: 0,
             is_spent: false,
@@ -154,7 +154,7 @@ impl Socket {
     }
 
     // Keeps what a message says.
-    fn keep(&mut self, message: Message) -> Heard
+    fn keep(&mut self, message: Message) -> DoorRead
         ensures heard { result ≡ heard_of message }
         ensures kept { self.new ≡ kept message self.old }
     {
@@ -162,21 +162,21 @@ impl Socket {
         match message {
             Message::Text(text) => {
                 self.text = text;
-                Heard::Text
+                DoorRead::Text
             }
             Message::Binary(bytes) | Message::Ping(bytes) | Message::Pong(bytes) => {
                 drop(bytes);
-                Heard::Other
+                DoorRead::Other
             }
             Message::Close(frame) => {
                 self.closed = Some(code_in(frame));
-                Heard::Other
+                DoorRead::Other
             }
         }
     }
 
     // The next message.
-    fn read(&mut self) -> Result<Heard, Broken>
+    fn read(&mut self) -> Result<DoorRead, Broken>
         ensures { ReadsOne self.old self.new result }
     {
         match self.socket.read() {
@@ -199,7 +199,7 @@ impl Socket {
     }
 
     // The next message, also where what the socket has to answer by itself can't be written any more.
-    fn read_on(&mut self) -> Result<Heard, Broken>
+    fn read_on(&mut self) -> Result<DoorRead, Broken>
         ensures { ReadsOn self.old self.new result }
     {
         match self.read() {
@@ -215,7 +215,7 @@ impl Socket {
     }
 
     // Says what was heard.
-    fn say(&mut self, heard: Heard) -> Heard
+    fn say(&mut self, heard: DoorRead) -> DoorRead
         ensures said { result ≡ heard }
         ensures kept { self.new ≡ record (self.old) { said = heard } }
     {
@@ -224,32 +224,32 @@ impl Socket {
     }
 
     // Says what is heard where a read failed so: nothing is there now, or it has ended.
-    fn say_broken(&mut self, why: Broken) -> Heard
+    fn say_broken(&mut self, why: Broken) -> DoorRead
         ensures said { result ≡ said_of why }
         ensures kept { self.new ≡ record (broken_by why self.old) { said = said_of why } }
     {
         self.is_spent = why.is_spent();
         if self.is_spent || why.would_block() {
-            self.say(Heard::Nothing)
+            self.say(DoorRead::Nothing)
         } else {
             self.why = Some(why);
-            self.say(Heard::Ended)
+            self.say(DoorRead::Ended)
         }
     }
 
     // Says what was heard. A text that holds more than a message may is as a read that failed.
-    fn say_heard(&mut self, heard: Heard) -> Heard
+    fn say_heard(&mut self, heard: DoorRead) -> DoorRead
         ensures { IsSaid (judged (Ok heard) self.old.text) self.old result self.new }
     {
         match heard {
-            Heard::Text => {
+            DoorRead::Text => {
                 if is_crowded(self.text.as_str()) {
                     self.say_broken(Broken::Crowded)
                 } else {
-                    self.say(Heard::Text)
+                    self.say(DoorRead::Text)
                 }
             }
-            Heard::Other | Heard::Nothing | Heard::Ended => self.say(heard),
+            DoorRead::Other | DoorRead::Nothing | DoorRead::Ended => self.say(heard),
         }
     }
 
@@ -302,7 +302,7 @@ impl Door for Socket {
 
     ghost flushed = { λ s. s.flushed };
 
-    fn hear(&mut self) -> Result<Heard, AllocError>
+    fn hear(&mut self) -> Result<DoorRead, AllocError>
         ensures said { IfOk result (λ heard. self.new.said ≡ heard) }
         // What it says is what was read of it.
         ensures heard { IfOk result (λ heard. Hears self.old self.new heard) }

@@ -5,7 +5,7 @@ use Rattle.rt_world.specs.declared.step.Call.{Call}
 use Rattle.rt_lines.specs.declared.error.LineError.{LineError}
 use Rattle.rt_lines.specs.declared.error.LineError.TheVariants.{NoMemory}
 use Rattle.rt_foreign.specs.declared.client.Event.{Event}
-use Rattle.rt_foreign.specs.declared.held.Held.{Held}
+use Rattle.rt_foreign.specs.declared.handle.HandleContent.{HandleContent}
 use Rattle.rt_foreign.specs.Asking.{Asks, AsksFor}
 use Rattle.rt_foreign.specs.Clients.{Client}
 use Rattle.rt_foreign.specs.Connection.{Hears, HearsOf}
@@ -29,7 +29,7 @@ after t u P Q g f (Some a) None same h = h
 after t u P Q g f (Some a) (Some b) same h = f a b h
 
 pub asks_read : (text read : Result Call LineError) (turned : Type 0) (seat result given : ℕ)
-    (old new : Option Held) → IfOk read (λ c. text ≡ Ok c)
+    (old new : Option HandleContent) → IfOk read (λ c. text ≡ Ok c)
     → IfErr read (λ e. (text ≡ Err e) ⊎ (e ≡ NoMemory))
     → CallsClient turned (λ a b. AsksFor read seat a result given b) old new
     → CallsClient turned (λ a b. Asks text seat a result given b) old new
@@ -39,7 +39,7 @@ asks_read text read turned seat result given old new is none h =
     (client_in old) (client_in new) (new ≡ old) h
 
 pub hears_read : (text read : Result Event LineError) (turned : Type 0) (result : ℕ)
-    (old new : Option Held) → IfOk read (λ e. text ≡ Ok e)
+    (old new : Option HandleContent) → IfOk read (λ e. text ≡ Ok e)
     → IfErr read (λ e. (text ≡ Err e) ⊎ (e ≡ NoMemory))
     → CallsClient turned (λ a b. HearsOf read a result b) old new
     → CallsClient turned (λ a b. Hears text a result b) old new
@@ -49,7 +49,7 @@ hears_read text read turned result old new is none h =
     (client_in old) (client_in new) (new ≡ old) h
 
 -- the number that no call has is not told
-pub unlistens : (read : Result Call LineError) (closed : Type 0) (seat result given : ℕ) (old new : Option Held)
+pub unlistens : (read : Result Call LineError) (closed : Type 0) (seat result given : ℕ) (old new : Option HandleContent)
     → CallsClient (closed × (given ≡ 0)) (λ a b. AsksFor read seat a result given b) old new
     → CallsClient closed (λ a b. (n : ℕ) × AsksFor read seat a result n b) old new
 unlistens read closed seat result given old new h =

@@ -9,7 +9,9 @@ ghost use Rattle.rt_foreign.specs.Status as status;
 ghost use Rattle.rt_foreign.specs.Texts.{IsTurnedAway};
 ghost use Rattle.rt_foreign.specs.declared.client.Event.TheVariants as event;
 
-use rt_foreign::{CLOSED, Client, DONE, Event, Handle, Held, NO_MEMORY, message_of, status_of};
+use rt_foreign::{
+    CLOSED, Client, DONE, Event, Handle, HandleContent, NO_MEMORY, message_of, status_of,
+};
 use rt_lines::LineError;
 use std::alloc::Global;
 
@@ -27,7 +29,7 @@ pub extern "C" fn kw_client_open(alloc: Global, handle: &mut Handle, rings: &[us
         Ok(client) => client,
         Err(why) => return status_of(why),
     };
-    match Box::new(alloc, Held::Client(client)) {
+    match Box::new(alloc, HandleContent::Client(client)) {
         Ok(held) => {
             handle.put(held);
             DONE
@@ -37,13 +39,13 @@ pub extern "C" fn kw_client_open(alloc: Global, handle: &mut Handle, rings: &[us
 }
 
 // Takes what the connection brings, on what a handle holds.
-fn hear_held(held: &mut Held, event: Result<Event, LineError>) -> u32
+fn hear_held(held: &mut HandleContent, event: Result<Event, LineError>) -> u32
     ensures { CallsClient (result ≡ status.closed)
         (λ before after. HearsOf event before result after) (Some held.old) (Some held.new) }
 {
     match held {
-        Held::Client(client) => client.take(event),
-        Held::Core(_) => CLOSED,
+        HandleContent::Client(client) => client.take(event),
+        HandleContent::Core(_) => CLOSED,
     }
 }
 
@@ -96,14 +98,14 @@ pub extern "C" fn kw_client_server_message(
 }
 
 // Gives the first message that is to be sent, on what a handle holds.
-fn outgoing_held(held: &mut Held, out: &mut [u8], len: &mut usize) -> u32
+fn outgoing_held(held: &mut HandleContent, out: &mut [u8], len: &mut usize) -> u32
     ensures { CallsClient ((result ≡ status.closed) × (out.new ≡ out.old) × (len.new ≡ len.old))
         (λ before after. Sends before out.old result after out.new len.new)
         (Some held.old) (Some held.new) }
 {
     match held {
-        Held::Client(client) => client.take_outgoing(out, len),
-        Held::Core(_) => CLOSED,
+        HandleContent::Client(client) => client.take_outgoing(out, len),
+        HandleContent::Core(_) => CLOSED,
     }
 }
 
@@ -129,14 +131,14 @@ pub extern "C" fn kw_client_take_outgoing(
 }
 
 // Gives the listens that are kept, on what a handle holds.
-fn cover_held(held: &mut Held, out: &mut [u8], len: &mut usize) -> u32
+fn cover_held(held: &mut HandleContent, out: &mut [u8], len: &mut usize) -> u32
     ensures { CallsClient ((result ≡ status.closed) × (out.new ≡ out.old) × (len.new ≡ len.old))
         (λ before after. Shows before out.old result after out.new len.new)
         (Some held.old) (Some held.new) }
 {
     match held {
-        Held::Client(client) => client.cover(out, len),
-        Held::Core(_) => CLOSED,
+        HandleContent::Client(client) => client.cover(out, len),
+        HandleContent::Core(_) => CLOSED,
     }
 }
 
@@ -163,7 +165,7 @@ pub extern "C" fn kw_client_cover(
 
 // Gives the next push id, on what a handle holds.
 fn push_key_held(
-    held: &mut Held,
+    held: &mut HandleContent,
     now_ms: u64,
     random: [u8; 12],
     out: &mut [u8],
@@ -174,8 +176,8 @@ fn push_key_held(
         (Some held.old) (Some held.new) }
 {
     match held {
-        Held::Client(client) => client.push_key(now_ms, random, out, len),
-        Held::Core(_) => CLOSED,
+        HandleContent::Client(client) => client.push_key(now_ms, random, out, len),
+        HandleContent::Core(_) => CLOSED,
     }
 }
 
@@ -203,14 +205,14 @@ pub extern "C" fn kw_client_push_key(
 }
 
 // Gives why a layer refused the last call, on what a handle holds.
-fn error_held(held: &Held, code: &mut u32, out: &mut [u8], len: &mut usize) -> u32
+fn error_held(held: &HandleContent, code: &mut u32, out: &mut [u8], len: &mut usize) -> u32
     ensures { MatchOption (client_in (Some held.now))
         ((result ≡ status.closed) × (out.new ≡ out.old) × (len.new ≡ len.old) × (code.new ≡ code.old))
         (λ client. GivesWhy client.refused code.new out.old result out.new len.new) }
 {
     match held {
-        Held::Client(client) => client.refusal(code, out, len),
-        Held::Core(_) => CLOSED,
+        HandleContent::Client(client) => client.refusal(code, out, len),
+        HandleContent::Core(_) => CLOSED,
     }
 }
 

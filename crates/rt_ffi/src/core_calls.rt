@@ -5,7 +5,7 @@ ghost use Rattle.rt_foreign.specs.Sessions.{TakesLine, new_session};
 ghost use Rattle.rt_foreign.specs.Status as status;
 ghost use Rattle.rt_foreign.specs.Texts.{Gives, IsTurnedAway};
 
-use rt_foreign::{CLOSED, DONE, Handle, Held, NO_MEMORY, Session, give};
+use rt_foreign::{CLOSED, DONE, Handle, HandleContent, NO_MEMORY, Session, give};
 use std::alloc::Global;
 
 /// Opens a core, which takes all that a core takes. A handle that is open is closed first.
@@ -16,7 +16,7 @@ pub extern "C" fn kw_core_open(alloc: Global, handle: &mut Handle) -> u32
         ⊎ ((result ≡ status.no_memory) × (handle.new.loose.value ≡ None)) }
 {
     let _ = handle.take(alloc);
-    match Box::new(alloc, Held::Core(Session::new(alloc))) {
+    match Box::new(alloc, HandleContent::Core(Session::new(alloc))) {
         Ok(held) => {
             handle.put(held);
             DONE
@@ -26,25 +26,25 @@ pub extern "C" fn kw_core_open(alloc: Global, handle: &mut Handle) -> u32
 }
 
 // Does a line on what a handle holds.
-fn line_on(held: &mut Held, line: &[u8]) -> u32
+fn line_on(held: &mut HandleContent, line: &[u8]) -> u32
     ensures { CallsCore (result ≡ status.closed) (TakesLine line.now result)
         (Some held.old) (Some held.new) }
 {
     match held {
-        Held::Core(session) => session.line(line),
-        Held::Client(_) => CLOSED,
+        HandleContent::Core(session) => session.line(line),
+        HandleContent::Client(_) => CLOSED,
     }
 }
 
 // Gives what the last line on what a handle holds has printed.
-fn text_on(held: &Held, out: &mut [u8], len: &mut usize) -> u32
+fn text_on(held: &HandleContent, out: &mut [u8], len: &mut usize) -> u32
     ensures { MatchOption (core_in (Some held.now))
         ((result ≡ status.closed) × (out.new ≡ out.old) × (len.new ≡ len.old))
         (λ session. Gives session.printed out.old result out.new len.new) }
 {
     match held {
-        Held::Core(session) => give(session.text().as_bytes(), out, len),
-        Held::Client(_) => CLOSED,
+        HandleContent::Core(session) => give(session.text().as_bytes(), out, len),
+        HandleContent::Client(_) => CLOSED,
     }
 }
 

@@ -11,22 +11,27 @@ ghost use Rattle.rt_foreign.specs.Wants.{kinds_of};
 
 use rt_client::Call;
 use rt_foreign::{
-    CLOSED, Handle, Held, at_end_call, cancel_call, kinds_of, listen_call, remove_call, set_call,
-    update_at_end_call, update_call,
+    CLOSED, Handle, HandleContent, at_end_call, cancel_call, kinds_of, listen_call, remove_call,
+    set_call, update_at_end_call, update_call,
 };
 use rt_lines::LineError;
 use rt_view::Kinds;
 use std::alloc::Global;
 
 // Makes the call that was read for the seat of that number on what a handle holds.
-fn ask_held(held: &mut Held, seat: u64, asked: Result<Call, LineError>, given: &mut u64) -> u32
+fn ask_held(
+    held: &mut HandleContent,
+    seat: u64,
+    asked: Result<Call, LineError>,
+    given: &mut u64,
+) -> u32
     ensures { CallsClient ((result ≡ status.closed) × (given.new ≡ given.old))
         (λ before after. AsksFor asked seat before result given.new after)
         (Some held.old) (Some held.new) }
 {
     match held {
-        Held::Client(client) => client.ask(seat, asked, given),
-        Held::Core(_) => CLOSED,
+        HandleContent::Client(client) => client.ask(seat, asked, given),
+        HandleContent::Core(_) => CLOSED,
     }
 }
 
@@ -202,13 +207,13 @@ pub extern "C" fn kw_client_cancel_disconnect(
 }
 
 // Hands over to the ring of the seat of that number, on what a handle holds.
-fn settle_held(held: &mut Held, seat: u64) -> u32
+fn settle_held(held: &mut HandleContent, seat: u64) -> u32
     ensures { CallsClient (result ≡ status.closed)
         (λ before after. Settles seat before result after) (Some held.old) (Some held.new) }
 {
     match held {
-        Held::Client(client) => client.settle(seat),
-        Held::Core(_) => CLOSED,
+        HandleContent::Client(client) => client.settle(seat),
+        HandleContent::Core(_) => CLOSED,
     }
 }
 
@@ -228,13 +233,13 @@ pub extern "C" fn kw_client_settle(alloc: Global, handle: &mut Handle, seat: u64
 }
 
 // From then on batches of a listener are given so, on what a handle holds.
-fn want_held(held: &mut Held, seat: u64, listener: u64, kinds: Kinds) -> u32
+fn want_held(held: &mut HandleContent, seat: u64, listener: u64, kinds: Kinds) -> u32
     ensures { CallsClient (result ≡ status.closed)
         (λ before after. WantsOf seat listener kinds before result after) (Some held.old) (Some held.new) }
 {
     match held {
-        Held::Client(client) => client.want(seat, listener, kinds),
-        Held::Core(_) => CLOSED,
+        HandleContent::Client(client) => client.want(seat, listener, kinds),
+        HandleContent::Core(_) => CLOSED,
     }
 }
 
@@ -260,14 +265,14 @@ pub extern "C" fn kw_client_want(
 }
 
 // Gives the next item of the seat of that number, on what a handle holds.
-fn next_held(held: &mut Held, seat: u64, out: &mut [u8], len: &mut usize) -> u32
+fn next_held(held: &mut HandleContent, seat: u64, out: &mut [u8], len: &mut usize) -> u32
     ensures { CallsClient ((result ≡ status.closed) × (out.new ≡ out.old) × (len.new ≡ len.old))
         (λ before after. Tells seat before out.old result after out.new len.new)
         (Some held.old) (Some held.new) }
 {
     match held {
-        Held::Client(client) => client.next(seat, out, len),
-        Held::Core(_) => CLOSED,
+        HandleContent::Client(client) => client.next(seat, out, len),
+        HandleContent::Core(_) => CLOSED,
     }
 }
 

@@ -14,7 +14,7 @@ use denote.Struct.Owning.{shape}
 use Rattle.std_alloc.specs.Box.Ownership.{box_owns}
 use Rattle.std_alloc.proofs.BoxSteps.Form.{Bx, τ, R, P, word, handle}
 use Rattle.std.proofs.alloc.Calls.{token, Fits, handle_tells}
-use Rattle.rt_foreign.specs.contracts.parts.BoxParts as parts
+use Rattle.rt_foreign.specs.contracts.handle.BoxParts as parts
 
 module _ (E : Bx) where
   abbrev pub Apart : RattleType

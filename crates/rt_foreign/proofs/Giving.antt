@@ -17,7 +17,7 @@ use Rattle.rt_client.specs.Settling.{RefusesCover, ShowsCover, TakesMessage}
 use Rattle.rt_lines.specs.declared.error.Refusal.TheVariants.{Push}
 use Rattle.rt_lines.specs.Printing.{cover_text}
 use Rattle.rt_foreign.specs.declared.client.Event.{Event}
-use Rattle.rt_foreign.specs.declared.place.Place.{Place}
+use Rattle.rt_foreign.specs.declared.client.OpenSeat.{OpenSeat}
 use Rattle.rt_foreign.specs.Clients.{Client, unrefused}
 use Rattle.rt_foreign.specs.Connection.{GivesTaken, IsHeard, IsUnheard, LooksOut, Sends}
 use Rattle.rt_foreign.specs.Events.{is_end, step_of_event}
@@ -31,29 +31,29 @@ use Rattle.rt_foreign.specs.Wants.{told}
 
 -- ---- the next item of a seat
 
-pub next_none : (old : Place) (had : List ℕ) → (looked old).first ≡ None
+pub next_none : (old : OpenSeat) (had : List ℕ) → (looked old).first ≡ None
     → GivesNext old had status.none (looked old) had 0
 next_none old had is =
     subst (λ o. GivesFirst o (looked old) had status.none (looked old) had 0) (sym is) ((refl, refl, refl), refl)
 
-pub next_lacks : (old : Place) (item : Item) (had : List ℕ) → (looked old).first ≡ Some item
+pub next_lacks : (old : OpenSeat) (item : Item) (had : List ℕ) → (looked old).first ≡ Some item
     → GivesNext old had status.no_memory (looked old) had 0
 next_lacks old item had is =
     subst (λ o. GivesFirst o (looked old) had status.no_memory (looked old) had 0) (sym is)
     (inr ((refl, refl, refl), refl))
 
-pub next_given : (old : Place) (item : Item) (had : List ℕ) (result : ℕ) (left : List ℕ) (len : ℕ)
+pub next_given : (old : OpenSeat) (item : Item) (had : List ℕ) (result : ℕ) (left : List ℕ) (len : ℕ)
     → (looked old).first ≡ Some item → Gives (item_text (told (looked old).wants item)) had result left len
     → (result == status.done) ≡ true
     → GivesNext old had result (given item (looked old)) left len
 next_given old item had result left len is text done =
-    let after : Place = given item (looked old) in
+    let after : OpenSeat = given item (looked old) in
     subst (λ o. GivesFirst o (looked old) had result after left len) (sym is) (inl (record {
       text = text;
       rest = ap (λ b. if b then after else looked old) (sym done);
     }))
 
-pub next_kept : (old : Place) (item : Item) (had : List ℕ) (result : ℕ) (left : List ℕ) (len : ℕ)
+pub next_kept : (old : OpenSeat) (item : Item) (had : List ℕ) (result : ℕ) (left : List ℕ) (len : ℕ)
     → (looked old).first ≡ Some item → Gives (item_text (told (looked old).wants item)) had result left len
     → (result == status.done) ≡ false → GivesNext old had result (looked old) left len
 next_kept old item had result left len is text not_done =

@@ -27,9 +27,9 @@ use Rattle.std.proofs.cell.Inside.{Good}
 use Rattle.std.specs.Box.Ownership.{box_owns}
 use Rattle.std.proofs.ResultValues.{and_tt}
 use Rattle.rt_foreign.specs.Boxes.{maybe_box_owns}
-use Rattle.rt_foreign.specs.declared.held.Held.{Held}
-use Rattle.rt_foreign.specs.contracts.held.Held as held
-use Rattle.rt_foreign.specs.contracts.parts.BoxParts as parts
+use Rattle.rt_foreign.specs.declared.handle.HandleContent.{HandleContent}
+use Rattle.rt_foreign.specs.contracts.handle.HandleContent as held
+use Rattle.rt_foreign.specs.contracts.handle.BoxParts as parts
 use Rattle.rt_foreign.specs.contracts.handle.Loose as loose
 
 abbrev pub both : Val → Val → Val
@@ -71,23 +71,23 @@ module _ {M : Type 1} {𝓤 : Ura M} {𝓛 : Logic 𝓤} {K : Type 0} {Γ : List
       (subst (λ (p : Ptr). vs ≡ vstruct (of_list (ptr_val p ∷ h ∷ [])) ∷ []) e
       (subst (λ (ws : List Val). vs ≡ vstruct (of_list (ptr_val d.ptr ∷ (ws ++ []))) ∷ []) ea (subst (λ (ps : List Val). vs ≡ vstruct (of_list (ps ++ (vss.1.0 ++ []))) ∷ []) ep ev))) fits)))))
 
-  pub parts_in : K → (b o : ℕ) (h : Val) (a : Global) (x : Held)
+  pub parts_in : K → (b o : ℕ) (h : Val) (a : Global) (x : HandleContent)
       → Step K 𝓛 (‵ (BoxParts.own_val (record { ptr = block_ptr b o; alloc = a; value = x }) (both (vptr b o) h ∷ [])) ∷ Γ) G (‵ (box_owns (ghosts.dealloc_token a) R (block_ptr b o) x) ∷ ‵ (Z.own_val a (h ∷ [])) ∷ Γ) G
   parts_in t b o h a x = step (λ s. let v : Val = both (vptr b o) h in
       nothing t $ move t (2 ∷ 0 ∷ []) $ fjoin t $ feq_i t (List Val) (vptr b o ∷ []) (vptr b o ∷ []) refl $ fjoin t $ feq_i t (List Val) (v ∷ []) (v ∷ []) refl $ fjoin t $
       fpack t (Valss (RawPtr ∷ Z ∷ [])) (within (shape (parts.the_type R Z ghosts)) (block_ptr b o, (a, tt)) (v ∷ [])) (vptr b o ∷ [], (h ∷ [], tt)) $ fjoin t $ s)
 
-  pub loose_out : K → (d : Loose.Denot) (x : Held) → d.value ≡ Some x → (vs : List Val)
+  pub loose_out : K → (d : Loose.Denot) (x : HandleContent) → d.value ≡ Some x → (vs : List Val)
       → ((b o : ℕ) (h : Val) → d.at ≡ block_ptr b o → vs ≡ both (vptr b o) h ∷ [] → Good (layout Z) h → Seq K 𝓛 (‵ (box_owns (ghosts.dealloc_token d.alloc) R (block_ptr b o) x) ∷ ‵ (Z.own_val d.alloc (h ∷ [])) ∷ Γ) G)
       → Seq K 𝓛 (‵ (Loose.own_val d vs) ∷ Γ) G
   loose_out t d x is vs k =
       fsplit t $ fpick t (λ vss. fsplit t $ feq_l t (λ ev. fsplit t $ feq_l t (λ ep. fsplit t $ handle_tells al t d.alloc vss.1.0 (λ h ea fits. move t (1 ∷ []) $ drop t $ move t (1 ∷ []) $
-      rewrite t 0 (λ (v : Option Held). ‵ (maybe_box_owns d.alloc R d.at v)) is refl $
+      rewrite t 0 (λ (v : Option HandleContent). ‵ (maybe_box_owns d.alloc R d.at v)) is refl $
       in_a_block t d.at (λ p. box_owns (ghosts.dealloc_token d.alloc) R p x) (fst∗ 𝓤 (never 𝓤) (sem 𝓛 (ghosts.dealloc_token d.alloc (bare (lone R.mir)) null_ptr))) (λ b o e. k b o h e
       (subst (λ (p : Ptr). vs ≡ vstruct (of_list (ptr_val p ∷ h ∷ [])) ∷ []) e
       (subst (λ (ws : List Val). vs ≡ vstruct (of_list (ptr_val d.at ∷ (ws ++ []))) ∷ []) ea (subst (λ (ps : List Val). vs ≡ vstruct (of_list (ps ++ (vss.1.0 ++ []))) ∷ []) ep ev))) fits)))))
 
-  pub loose_in : K → (b o : ℕ) (h : Val) (a : Global) (x : Held)
+  pub loose_in : K → (b o : ℕ) (h : Val) (a : Global) (x : HandleContent)
       → Step K 𝓛 (‵ (Loose.own_val (record { at = block_ptr b o; alloc = a; value = Some x }) (both (vptr b o) h ∷ [])) ∷ Γ) G (‵ (box_owns (ghosts.dealloc_token a) R (block_ptr b o) x) ∷ ‵ (Z.own_val a (h ∷ [])) ∷ Γ) G
   loose_in t b o h a x = step (λ s. let v : Val = both (vptr b o) h in
       nothing t $ move t (2 ∷ 0 ∷ []) $ fjoin t $ feq_i t (List Val) (vptr b o ∷ []) (vptr b o ∷ []) refl $ fjoin t $ feq_i t (List Val) (v ∷ []) (v ∷ []) refl $ fjoin t $

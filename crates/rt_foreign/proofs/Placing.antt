@@ -12,7 +12,7 @@ use Rattle.rt_client.specs.declared.error.ClientError.{ClientError}
 use Rattle.rt_client.specs.declared.error.ClientError.TheVariants as client
 use Rattle.rt_client.specs.Calls.{Locked, Seated, MakesCall, RefusesCall}
 use Rattle.rt_client.specs.Settling as settling
-use Rattle.rt_foreign.specs.declared.place.Place.{Place}
+use Rattle.rt_foreign.specs.declared.client.OpenSeat.{OpenSeat}
 use Rattle.rt_foreign.specs.Asking.{CallsSeat, SettlesSeat, TellsSeat, WantsSeat}
 use Rattle.rt_foreign.specs.Clients.{Client, place_at, unrefused, with_place}
 use Rattle.rt_foreign.specs.Places.{GivesNext}
@@ -21,7 +21,7 @@ use Rattle.rt_foreign.specs.Status as status
 use Rattle.rt_foreign.specs.Wants.{with_want}
 
 -- no seat has a number beyond the last
-pub beyond : (places : List Place) (n : ℕ) → length places ≤ n - 1 → place_at places n ≡ None
+pub beyond : (places : List OpenSeat) (n : ℕ) → length places ≤ n - 1 → place_at places n ≡ None
 beyond places n le =
     elim (n == 0) as (λ b. (if b then None else slice_get places (n - 1)) ≡ None) [
       | true ↦ refl
@@ -35,7 +35,7 @@ before : (n place : ℕ) → n ≡ place + 1 → n - 1 ≡ place
 before n place e = omega arith
 
 -- the seat at a place
-at_place : (places : List Place) (n place : ℕ) (p : Place) → place < length places → n ≡ place + 1
+at_place : (places : List OpenSeat) (n place : ℕ) (p : OpenSeat) → place < length places → n ≡ place + 1
     → p ≡ get_or places place p → place_at places n ≡ Some p
 at_place places n place p lt is at =
     let F : Bool → Type 0 = λ b. (if b then None else slice_get places (n - 1)) ≡ Some p in
@@ -43,12 +43,12 @@ at_place places n place p lt is at =
     (ap (λ k. slice_get places k) (before n place is) ∙ slice_get_read places (length places) place p refl lt at)
 
 -- what is put there
-put_there : (places : List Place) (n place : ℕ) (p : Place) → n ≡ place + 1
+put_there : (places : List OpenSeat) (n place : ℕ) (p : OpenSeat) → n ≡ place + 1
     → set places place p ≡ with_place n p places
 put_there places n place p is = ap (λ k. set places k p) (sym (before n place is))
 
 -- the call of a seat is made
-pub call_made : (old : Client) (n place : ℕ) (p : Place) (c : Call) (result given : ℕ) (done : Done)
+pub call_made : (old : Client) (n place : ℕ) (p : OpenSeat) (c : Call) (result given : ℕ) (done : Done)
     (shared : Locked) (seat : Seated)
     → place < length old.places → n ≡ place + 1 → p ≡ get_or old.places place p
     → MakesCall old.shared p.seat c done shared seat
@@ -74,7 +74,7 @@ call_made old n place p c result given done shared seat lt is at made result_is 
     }))
 
 -- it is refused
-pub call_refused : (old : Client) (n place : ℕ) (p : Place) (c : Call) (result given : ℕ) (why : ClientError)
+pub call_refused : (old : Client) (n place : ℕ) (p : OpenSeat) (c : Call) (result given : ℕ) (why : ClientError)
     (shared : Locked) (seat : Seated)
     → place < length old.places → n ≡ place + 1 → p ≡ get_or old.places place p
     → RefusesCall old.shared p.seat c why shared seat
@@ -120,7 +120,7 @@ pub told_nowhere : (old : Client) (n : ℕ) (had : List ℕ) → place_at old.pl
 told_nowhere old n had is =
     subst (λ o. TellsSeat o old n had status.wrong_seat (unrefused old) had 0) (sym is) ((refl, refl, refl), refl)
 
-pub settled : (old : Client) (n place : ℕ) (p : Place) (shared : Locked) (seat : Seated)
+pub settled : (old : Client) (n place : ℕ) (p : OpenSeat) (shared : Locked) (seat : Seated)
     → place < length old.places → n ≡ place + 1 → p ≡ get_or old.places place p
     → settling.Settles old.shared p.seat shared seat
     → SettlesSeat (place_at old.places n) old n status.done (record (unrefused old) {
@@ -141,7 +141,7 @@ settled old n place p shared seat lt is at settles =
           (put_there old.places n place (record p { seat = seat }) is);
     }))
 
-pub unsettled : (old : Client) (n place : ℕ) (p : Place) (result : ℕ) (why : ClientError) (shared : Locked)
+pub unsettled : (old : Client) (n place : ℕ) (p : OpenSeat) (result : ℕ) (why : ClientError) (shared : Locked)
     (seat : Seated)
     → place < length old.places → n ≡ place + 1 → p ≡ get_or old.places place p
     → settling.RefusesSettle old.shared p.seat why shared seat → why ≢ client.NoMemory → result ≡ status_of why
@@ -167,7 +167,7 @@ unsettled old n place p result why shared seat lt is at refused memory result_is
           (put_there old.places n place (record p { seat = seat }) is);
     }))
 
-pub told : (old : Client) (n place : ℕ) (p after : Place) (had : List ℕ) (result : ℕ) (left : List ℕ) (len : ℕ)
+pub told : (old : Client) (n place : ℕ) (p after : OpenSeat) (had : List ℕ) (result : ℕ) (left : List ℕ) (len : ℕ)
     → place < length old.places → n ≡ place + 1 → p ≡ get_or old.places place p
     → GivesNext p had result after left len
     → TellsSeat (place_at old.places n) old n had result (record (unrefused old) {
@@ -185,18 +185,18 @@ pub wanted_nowhere : (old : Client) (n listener : ℕ) (kinds : Kinds) → place
 wanted_nowhere old n listener kinds is =
     subst (λ o. WantsSeat o n old listener kinds status.wrong_seat (unrefused old)) (sym is) (refl, refl)
 
-pub wanted : (old : Client) (n place listener : ℕ) (kinds : Kinds) (p : Place)
+pub wanted : (old : Client) (n place listener : ℕ) (kinds : Kinds) (p : OpenSeat)
     → place < length old.places → n ≡ place + 1 → p ≡ get_or old.places place p
     → WantsSeat (place_at old.places n) n old listener kinds status.done (record (unrefused old) {
       places = set old.places place (record p { wants = with_want listener kinds p.wants });
     })
 wanted old n place listener kinds p lt is at =
-    let after : Place = record p { wants = with_want listener kinds p.wants } in
+    let after : OpenSeat = record p { wants = with_want listener kinds p.wants } in
     let new : Client = record (unrefused old) { places = set old.places place after } in
     subst (λ o. WantsSeat o n old listener kinds status.done new) (sym (at_place old.places n place p lt is at))
     (inl (refl, ap (λ ps. record (unrefused old) { places = ps }) (put_there old.places n place after is)))
 
-pub unwanted : (old : Client) (n place listener : ℕ) (kinds : Kinds) (p : Place)
+pub unwanted : (old : Client) (n place listener : ℕ) (kinds : Kinds) (p : OpenSeat)
     → place < length old.places → n ≡ place + 1 → p ≡ get_or old.places place p
     → WantsSeat (place_at old.places n) n old listener kinds status.no_memory (record (unrefused old) {
       places = set old.places place p;

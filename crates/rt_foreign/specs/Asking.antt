@@ -9,7 +9,7 @@ use Rattle.rt_client.specs.Calls.{Locked, Seated, MakesCall, RefusesCall}
 use Rattle.rt_client.specs.Settling as settling
 use Rattle.rt_lines.specs.declared.error.LineError.{LineError}
 use Rattle.rt_lines.specs.declared.error.LineError.TheVariants.{NoMemory}
-use Rattle.rt_foreign.specs.declared.place.Place.{Place}
+use Rattle.rt_foreign.specs.declared.client.OpenSeat.{OpenSeat}
 use Rattle.rt_foreign.specs.Clients.{Client, place_at, unrefused, with_place}
 use Rattle.rt_foreign.specs.Places.{GivesNext, GivesNothing}
 use Rattle.rt_foreign.specs.Refusing.{refusal_of, refusal_read, status_of, status_of_outcome, status_read}
@@ -19,14 +19,14 @@ use Rattle.rt_foreign.specs.Wants.{with_want}
 -- ---- calls that listen and write
 
 -- the client inside and the seat of that number are others then
-abbrev pub with_seat : Client → ℕ → Place → Locked → Seated → Client
+abbrev pub with_seat : Client → ℕ → OpenSeat → Locked → Seated → Client
 with_seat client number place shared seat = record client {
   shared = shared;
   places = with_place number (record place { seat = seat }) client.places;
 }
 
 -- the call of a seat is made; its listener or request has that number, or it has none
-pub record IsMade (old : Client) (number : ℕ) (place : Place) (c : Call) (result given : ℕ) (new : Client)
+pub record IsMade (old : Client) (number : ℕ) (place : OpenSeat) (c : Call) (result given : ℕ) (new : Client)
     : Type 0 where
   pub done : Done
   pub shared : Locked
@@ -37,7 +37,7 @@ pub record IsMade (old : Client) (number : ℕ) (place : Place) (c : Call) (resu
   pub client : new ≡ with_seat (unrefused old) number place shared seat
 
 -- it is refused: by the client, or by its core, and then that is kept
-pub record IsRefused (old : Client) (number : ℕ) (place : Place) (c : Call) (result given : ℕ) (new : Client)
+pub record IsRefused (old : Client) (number : ℕ) (place : OpenSeat) (c : Call) (result given : ℕ) (new : Client)
     : Type 0 where
   pub why : ClientError
   pub shared : Locked
@@ -51,7 +51,7 @@ pub record IsRefused (old : Client) (number : ℕ) (place : Place) (c : Call) (r
 abbrev pub IsNoSeat : Client → ℕ → ℕ → Client → Type 0
 IsNoSeat old result given new = (result ≡ status.wrong_seat) × (given ≡ 0) × (new ≡ unrefused old)
 
-abbrev pub CallsSeat : Option Place → Client → ℕ → Call → ℕ → ℕ → Client → Type 0
+abbrev pub CallsSeat : Option OpenSeat → Client → ℕ → Call → ℕ → ℕ → Client → Type 0
 CallsSeat None old number c result given new = IsNoSeat old result given new
 CallsSeat (Some place) old number c result given new =
     IsMade old number place c result given new ⊎ IsRefused old number place c result given new
@@ -71,7 +71,7 @@ Asks asked number old result given new =
 -- ---- what a seat is told
 
 -- the seat's ring is filled from its lane
-pub record IsSettled (old : Client) (number : ℕ) (place : Place) (result : ℕ) (new : Client) : Type 0 where
+pub record IsSettled (old : Client) (number : ℕ) (place : OpenSeat) (result : ℕ) (new : Client) : Type 0 where
   pub shared : Locked
   pub seat : Seated
   pub settles : settling.Settles old.shared place.seat shared seat
@@ -79,7 +79,7 @@ pub record IsSettled (old : Client) (number : ℕ) (place : Place) (result : ℕ
   pub client : new ≡ with_seat (unrefused old) number place shared seat
 
 -- it is not, and no memory has lacked for it
-pub record IsUnsettled (old : Client) (number : ℕ) (place : Place) (result : ℕ) (new : Client) : Type 0 where
+pub record IsUnsettled (old : Client) (number : ℕ) (place : OpenSeat) (result : ℕ) (new : Client) : Type 0 where
   pub why : ClientError
   pub memory : why ≢ client.NoMemory
   pub shared : Locked
@@ -88,7 +88,7 @@ pub record IsUnsettled (old : Client) (number : ℕ) (place : Place) (result : �
   pub status : result ≡ status_of why
   pub client : new ≡ with_seat (record old { refused = refusal_of why }) number place shared seat
 
-abbrev pub SettlesSeat : Option Place → Client → ℕ → ℕ → Client → Type 0
+abbrev pub SettlesSeat : Option OpenSeat → Client → ℕ → ℕ → Client → Type 0
 SettlesSeat None old number result new = (result ≡ status.wrong_seat) × (new ≡ unrefused old)
 SettlesSeat (Some place) old number result new =
     IsSettled old number place result new ⊎ IsUnsettled old number place result new
@@ -97,7 +97,7 @@ abbrev pub Settles : ℕ → Client → ℕ → Client → Type 0
 Settles number old result new = SettlesSeat (place_at old.places number) old number result new
 
 -- what a listener of the seat is told from then on; where memory lacks for that, it is told what it was told
-abbrev pub WantsSeat : Option Place → ℕ → Client → ℕ → Kinds → ℕ → Client → Type 0
+abbrev pub WantsSeat : Option OpenSeat → ℕ → Client → ℕ → Kinds → ℕ → Client → Type 0
 WantsSeat None number old listener kinds result new = (result ≡ status.wrong_seat) × (new ≡ unrefused old)
 WantsSeat (Some place) number old listener kinds result new =
     ((result ≡ status.done) × (new ≡ record (unrefused old) {
@@ -112,11 +112,11 @@ WantsOf number listener kinds old result new =
     WantsSeat (place_at old.places number) number old listener kinds result new
 
 -- the seat gives its next item; the others stay
-abbrev pub TellsSeat : Option Place → Client → ℕ → List ℕ → ℕ → Client → List ℕ → ℕ → Type 0
+abbrev pub TellsSeat : Option OpenSeat → Client → ℕ → List ℕ → ℕ → Client → List ℕ → ℕ → Type 0
 TellsSeat None old number had result new left len =
     GivesNothing status.wrong_seat had result left len × (new ≡ unrefused old)
 TellsSeat (Some place) old number had result new left len =
-    (after : Place) × GivesNext place had result after left len
+    (after : OpenSeat) × GivesNext place had result after left len
     × (new ≡ record (unrefused old) { places = with_place number after old.places })
 
 abbrev pub Tells : ℕ → Client → List ℕ → ℕ → Client → List ℕ → ℕ → Type 0

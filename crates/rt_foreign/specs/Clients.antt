@@ -6,21 +6,21 @@ use Rattle.rt_wire.specs.declared.client.ClientMessage.{ClientMessage}
 use Rattle.rt_lines.specs.declared.error.Refusal.{Refusal}
 use Rattle.rt_client.specs.Calls.{Locked, Seated}
 use Rattle.rt_client.specs.Opened.{new_locked, seats_from}
-use Rattle.rt_foreign.specs.declared.place.Place.{Place}
+use Rattle.rt_foreign.specs.declared.client.OpenSeat.{OpenSeat}
 
 -- the client inside; its seats by their numbers, from 1; the message that was taken out of it and is still to
 -- be given; and which layer refused the last call, and why, if one did
 pub record Client : Type 0 where
   pub shared : Locked
-  pub places : List Place
+  pub places : List OpenSeat
   pub message : Option ClientMessage
   pub refused : Option Refusal
 
 -- seats of whose rings nothing was taken, and whose listeners are told all
-abbrev pub new_place : Seated → Place
+abbrev pub new_place : Seated → OpenSeat
 new_place seat = record { seat = seat; first = None; wants = [] }
 
-abbrev pub places_from : List Seated → List Place
+abbrev pub places_from : List Seated → List OpenSeat
 places_from seats = map new_place seats
 
 -- a new client with a seat for each capacity of a ring, which takes all that a client takes
@@ -33,11 +33,11 @@ new_client rings = record {
 }
 
 -- the seat of that number, if the client has it
-abbrev pub place_at : List Place → ℕ → Option Place
+abbrev pub place_at : List OpenSeat → ℕ → Option OpenSeat
 place_at places number = if number == 0 then None else slice_get places (number - 1)
 
 -- that seat is another then
-abbrev pub with_place : ℕ → Place → List Place → List Place
+abbrev pub with_place : ℕ → OpenSeat → List OpenSeat → List OpenSeat
 with_place number place places = set places (number - 1) place
 
 -- no layer has refused the last call

@@ -8,7 +8,7 @@ use Rattle.rt_view.specs.declared.kinds.Kinds.{Kinds}
 use Rattle.rt_view.specs.Kinds.{of_kinds}
 use Rattle.rt_mail.specs.declared.item.Item.{Item}
 use Rattle.rt_mail.specs.declared.item.Item.TheVariants as item
-use Rattle.rt_mail.specs.declared.receipt.Receipt.TheVariants.{Listened, Unlistened, Wrote, Asked}
+use Rattle.rt_mail.specs.declared.item.Receipt.TheVariants.{Listened, Unlistened, Wrote, Asked}
 
 -- the kinds that bits ask for: 1 removed, 2 added, 4 moved, 8 changed, 16 the value
 abbrev pub kinds_of : ℕ → Kinds

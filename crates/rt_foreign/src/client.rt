@@ -1,6 +1,6 @@
 // A client with its seats, as C holds it.
 ghost use Rattle.std.specs.Prelude.{◌≡◌, ◌⊎◌, ◌<◌, ◌≤◌, ◌+◌, if◌then◌else◌, List, length, string_bytes, None};
-ghost use Rattle.std.specs.Prelude.{IfOk, IfErr, IfSome, OnOk, Ok, Err};
+ghost use Rattle.std.specs.Prelude.{IfOk, IfErr, IfSome, OnOk, Ok, Err, []};
 ghost use Rattle.rt_cover.specs.declared.listen.Kept.{Kept};
 ghost use Rattle.rt_client.specs.declared.error.ClientError.TheVariants.{TooManySeats, NoMemory};
 ghost use Rattle.rt_client.specs.Calls.{HasFailed, Comes, RefusesOn};
@@ -12,21 +12,26 @@ ghost use Rattle.rt_foreign.specs.Connection.{HearsOf, IsHeard, IsUnheard, Looks
 ghost use Rattle.rt_foreign.specs.Looks.{GivesKey, GivesWhy, Shows};
 ghost use Rattle.rt_foreign.specs.Refusing.{refusal_of, refusal_read, status_of, status_read};
 ghost use Rattle.rt_foreign.specs.Events.{event_read, is_end, step_of_event};
+ghost use Rattle.rt_foreign.specs.Places.{GivesNext, looked};
+ghost use Rattle.rt_foreign.specs.Items.{item_text};
+ghost use Rattle.rt_foreign.specs.Wants.{after_given, ended, kinds_of, told, wanted, with_want};
+ghost use Rattle.rt_mail.specs.declared.item.Item.TheVariants as kind;
 
 use crate::calls::text_of;
-use crate::place::Place;
+use crate::item::item_text;
 use crate::session::give;
 use crate::status::{
     DONE, FAILED, NO_MEMORY, NONE, REFUSED, TOO_SMALL, WRONG_SEAT, refusal_of, refusal_read,
     status_of, status_of_outcome, status_read,
 };
-use crate::wants::Wants;
 use rt_client::{Call, ClientError, Seat, Shared, with_seat};
 use rt_lines::{LineError, Refusal, write_cover};
-use rt_view::Kinds;
+use rt_mail::{Item, Receipt};
+use rt_view::{Batch, Kinds, of_kinds};
 use rt_wire::{ClientMessage, ServerMessage, WireError};
 use rt_world::{Limits, Outcome};
 use std::alloc::{AllocError, Global};
+use std::collections::BTreeMap;
 use std::marker::Model;
 use std::mem;
 
@@ -36,7 +41,7 @@ use std::mem;
 pub struct Client {
     alloc: Global,
     shared: Shared,
-    places: Vec<Place>,
+    places: Vec<OpenSeat>,
     message: Option<ClientMessage>,
     refused: Option<Refusal>,
 }
@@ -55,13 +60,13 @@ impl Model for Client {
 }
 
 // The seats, of whose rings nothing was taken.
-fn places_of(alloc: Global, seats: Vec<Seat>) -> Result<Vec<Place>, AllocError>
+fn places_of(alloc: Global, seats: Vec<Seat>) -> Result<Vec<OpenSeat>, AllocError>
     ensures { IfOk result (λ places. places.items ≡ places_from seats.items) }
 {
     let mut places = Vec::with_capacity(alloc, seats.len())?;
     for seat in seats {
         let wants = Wants::new(alloc);
-        places.push(Place {
+        places.push(OpenSeat {
             seat,
             first: None,
             wants,
@@ -72,7 +77,7 @@ fn places_of(alloc: Global, seats: Vec<Seat>) -> Result<Vec<Place>, AllocError>
 
 // The place of the seat of that number, if the client has it.
 #[tactic(auto, using(crate::proofs::Placing::beyond))]
-fn place_of(places: &Vec<Place>, number: u64) -> Option<usize>
+fn place_of(places: &Vec<OpenSeat>, number: u64) -> Option<usize>
     ensures here { IfSome result (λ place. (place < length places.now.items) × (number ≡ place + 1)) }
     ensures none { result ≡ None → place_at places.now.items number ≡ None }
 {
@@ -391,5 +396,160 @@ pub(crate) fn tell(shared: &mut Shared, event: Event) -> Result<Outcome, ClientE
         Event::Connected => shared.connected(),
         Event::Disconnected => shared.disconnected(),
         Event::Message(message) => shared.server_message(message),
+    }
+}
+
+// ---- a seat, and the item that it was asked for and that is still to be had
+
+/// A seat, the item that was taken out of its ring and is still to be given, and which kinds of changes its
+/// listeners are told.
+#[derive(Drop)]
+pub struct OpenSeat {
+    pub seat: Seat,
+    pub first: Option<Item>,
+    pub wants: Wants,
+}
+
+impl OpenSeat {
+    // Takes the first item out of the ring, where none was taken before.
+    fn look(&mut self)
+        ensures { self.new ≡ looked self.old }
+    {
+        if self.first.is_none() {
+            let next = self.seat.next();
+            drop(mem::replace(&mut self.first, next));
+        }
+    }
+
+    /// Gives the text of the first item, where its room is enough for it: then the item is gone.
+    #[tactic(auto, using(crate::proofs::Giving::next_none, crate::proofs::Giving::next_lacks, crate::proofs::Giving::next_given, crate::proofs::Giving::next_kept))]
+    pub fn next(&mut self, alloc: Global, out: &mut [u8], len: &mut usize) -> u32
+        ensures { GivesNext self.old out.old result self.new out.new len.new }
+    {
+        *len = 0;
+        self.look();
+        let Some(item) = &self.first else {
+            return NONE;
+        };
+        let Ok(text) = self.wants.text(alloc, item) else {
+            return NO_MEMORY;
+        };
+        let status = give(text.as_str().as_bytes(), out, len);
+        if status == DONE {
+            self.wants.forget(item);
+            drop(self.first.take());
+        }
+        status
+    }
+}
+
+// ---- which kinds of changes the batches of a seat's listeners are given with
+
+/// The kinds that bits ask for: of 1 removed, 2 added, 4 moved, 8 changed, 16 the value. Other bits are passed over.
+pub fn kinds_of(bits: u32) -> Kinds
+    ensures { result ≡ kinds_of bits }
+{
+    Kinds {
+        removed: bits % 2 == 1,
+        added: bits / 2 % 2 == 1,
+        moved: bits / 4 % 2 == 1,
+        changed: bits / 8 % 2 == 1,
+        value: bits / 16 % 2 == 1,
+    }
+}
+
+/// The kinds that listeners are told, by the numbers of the listeners. One that is not named is told all.
+pub struct Wants {
+    kinds: BTreeMap<u64, Kinds>,
+}
+
+impl Drop for Wants {
+    fn drop(self) {
+        let Wants { kinds: _ } = self;
+    }
+}
+
+impl Model for Wants {
+    ghost use Rattle.std.specs.BTreeMap.{IsOrdered};
+    ghost use Rattle.std.specs.Ordering.{nat_cmp};
+    ghost use Rattle.rt_foreign.specs.Wants.{Wants as Asked};
+
+    ghost Value = { Asked };
+
+    ghost view = { λ a. a.kinds.entries };
+
+    ghost invariant = { λ a. IsOrdered nat_cmp a.kinds };
+}
+
+impl Wants {
+    /// All listeners are told all kinds.
+    pub fn new(alloc: Global) -> Wants
+        ensures { result ≡ [] }
+    {
+        Wants {
+            kinds: BTreeMap::new(alloc),
+        }
+    }
+
+    /// A listener is told these kinds from then on.
+    pub fn want(&mut self, listener: u64, kinds: Kinds) -> Result<(), AllocError>
+        ensures wanted { OnOk result (self.new ≡ with_want listener kinds self.old) }
+        ensures unchanged { IfErr result (λ _. self.new ≡ self.old) }
+    {
+        drop(self.kinds.insert(listener, kinds)?);
+        Ok(())
+    }
+
+    // The kinds that a listener is told, where it is not told all.
+    fn of(&self, listener: u64) -> Option<Kinds>
+        ensures { result ≡ wanted listener self.now }
+    {
+        self.kinds.get(&listener).copied()
+    }
+
+    // What was said of a listener goes with it.
+    fn end(&mut self, listener: u64)
+        ensures { self.new ≡ ended listener self.old }
+    {
+        drop(self.kinds.remove(&listener));
+    }
+
+    // A batch with the kinds that its listener is told.
+    fn batch_text(&self, alloc: Global, item: &Item, batch: &Batch) -> Result<String, AllocError>
+        requires { item.now ≡ kind.Batch batch.now }
+        ensures { IfOk result (λ text. string_bytes text ≡ item_text (told self.now item.now)) }
+    {
+        let Some(kinds) = self.of(batch.listener) else {
+            return item_text(alloc, item);
+        };
+        let changes = of_kinds(alloc, batch, kinds)?;
+        let listener = batch.listener;
+        let few = Item::Batch(Batch { listener, changes });
+        item_text(alloc, &few)
+    }
+
+    /// What a seat is told, as JSON, with the kinds that its listener is told.
+    pub fn text(&self, alloc: Global, item: &Item) -> Result<String, AllocError>
+        ensures { IfOk result (λ text. string_bytes text ≡ item_text (told self.now item.now)) }
+    {
+        match item {
+            Item::Batch(batch) => self.batch_text(alloc, item, batch),
+            Item::Receipt(_) | Item::Settled { .. } | Item::Cancelled { .. } => {
+                item_text(alloc, item)
+            }
+        }
+    }
+
+    /// An item was given: with the last of a listener goes what was said of it.
+    pub fn forget(&mut self, item: &Item)
+        ensures { self.new ≡ after_given self.old item.now }
+    {
+        match item {
+            Item::Receipt(Receipt::Unlistened { listener }) => self.end(*listener),
+            Item::Cancelled { listener, .. } => self.end(*listener),
+            Item::Receipt(Receipt::Listened { .. } | Receipt::Wrote { .. } | Receipt::Asked { .. })
+            | Item::Batch(_)
+            | Item::Settled { .. } => {}
+        }
     }
 }

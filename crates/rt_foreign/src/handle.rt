@@ -1,12 +1,13 @@
 // What C holds of what is open.
 ghost use Rattle.std.specs.Prelude.{◌≡◌, true, Option, None, Some, IfNone, IfSome, is_some};
+ghost use Rattle.std.specs.Box.Ownership.{box_owns};
 ghost use Rattle.rt_foreign.specs.Boxes.{maybe_box_owns};
-ghost use Rattle.rt_foreign.specs.declared.held.Held.{Held};
-ghost use Rattle.rt_foreign.specs.contracts.held.Held.{the_row as the_held};
+ghost use Rattle.rt_foreign.specs.declared.handle.HandleContent.{HandleContent};
+ghost use Rattle.rt_foreign.specs.contracts.handle.HandleContent.{the_row as the_held};
 
-use crate::held::Held;
-use crate::parts::BoxParts;
-use std::alloc::Global;
+use crate::client::Client;
+use crate::session::Session;
+use std::alloc::{Allocator, Global};
 use std::marker::Model;
 use std::{mem, ptr};
 
@@ -16,7 +17,7 @@ use std::{mem, ptr};
 pub struct Loose {
     at: *mut u8,
     alloc: Global,
-    pub ghost value: { Option Held },
+    pub ghost value: { Option HandleContent },
 }
 
 impl Model for Loose {
@@ -33,7 +34,7 @@ impl Loose {
         }
     }
 
-    fn of(parts: BoxParts<Held, Global>) -> Loose
+    fn of(parts: BoxParts<HandleContent, Global>) -> Loose
         ensures { result.value ≡ Some parts.value }
     {
         let BoxParts { ptr, alloc } = parts;
@@ -43,13 +44,13 @@ impl Loose {
         }
     }
 
-    fn into_parts(self) -> BoxParts<Held, Global>
+    fn into_parts(self) -> BoxParts<HandleContent, Global>
         requires { is_some self.value ≡ true }
         ensures { Some result.value ≡ self.value }
     {
         let Loose { at, alloc } = self;
         BoxParts {
-            ptr: at as *mut Held,
+            ptr: at as *mut HandleContent,
             alloc,
         }
     }
@@ -75,7 +76,7 @@ impl Handle {
     }
 
     /// Takes out what is open, if there is something: the handle is closed then.
-    pub fn take(&mut self, alloc: Global) -> Option<Box<Held>>
+    pub fn take(&mut self, alloc: Global) -> Option<Box<HandleContent>>
         ensures closed { self.new.loose.value ≡ None }
         ensures none { IfNone result (self.old.loose.value ≡ None) }
         ensures held { IfSome result (λ held. self.old.loose.value ≡ Some held.value) }
@@ -89,12 +90,60 @@ impl Handle {
     }
 
     /// Opens a handle that is closed. What was open before is not freed.
-    pub fn put(&mut self, held: Box<Held>)
+    pub fn put(&mut self, held: Box<HandleContent>)
         ensures { self.new.loose.value ≡ Some held.value }
     {
         *self = Handle {
             is_open: true,
             loose: Loose::of(BoxParts::of(held)),
         };
+    }
+}
+
+// ---- what a handle holds
+
+/// What a handle holds.
+#[derive(Drop)]
+pub enum HandleContent {
+    /// A core that lines drive.
+    Core(Session),
+    /// A client with its seats.
+    Client(Client),
+}
+
+// ---- a box as a pointer and an allocator, and back
+
+/// A box taken apart: where its value lies, and the allocator that frees it. It owns what the box owned,
+/// so it is made by a box, and made a box again, and by a function whose proof moves what it owns.
+pub(crate) struct BoxParts<T, A: Allocator> {
+    /// Where the value lies, which is never null.
+    pub ptr: *mut T,
+    /// Who frees it.
+    pub alloc: A,
+    /// The value that lies there.
+    pub ghost value: { T },
+}
+
+impl<T, A: Allocator> Model for BoxParts<T, A> {
+    ghost also_owns = { λ p. box_owns (A.dealloc_token p.alloc) T.row p.ptr p.value };
+}
+
+impl<T, A: Allocator> BoxParts<T, A> {
+    /// Takes a box apart.
+    pub fn of(whole: Box<T, A>) -> BoxParts<T, A>
+    where
+        T: Drop,
+        ensures value { result.value ≡ whole.value }
+    {
+        let (ptr, alloc) = Box::into_raw_with_allocator(whole);
+        BoxParts { ptr, alloc }
+    }
+
+    /// The box again.
+    pub fn into_box(self) -> Box<T, A>
+        ensures value { result.value ≡ self.value }
+    {
+        let BoxParts { ptr, alloc } = self;
+        unsafe { Box::from_raw(alloc, ptr) }
     }
 }

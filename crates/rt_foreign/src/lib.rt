@@ -16,25 +16,18 @@ mod calls;
 mod client;
 pub mod examples;
 mod handle;
-mod held;
 mod item;
-mod parts;
-mod place;
 mod session;
 mod status;
-mod wants;
 
 pub use calls::{
     at_end_call, cancel_call, listen_call, remove_call, set_call, update_at_end_call, update_call,
 };
-pub use client::{Client, Event, message_of};
-pub use handle::Handle;
-pub use held::Held;
+pub use client::{Client, Event, OpenSeat, Wants, kinds_of, message_of};
+pub use handle::{Handle, HandleContent};
 pub use item::item_text;
-pub use place::Place;
 pub use session::{Session, give};
 pub use status::{
     BAD_TEXT, CLOSED, DONE, FAILED, MAILBOX_FULL, NO_MEMORY, NONE, REFUSED, STALE, TOO_MANY_SEATS,
     TOO_SMALL, WRONG_SEAT, status_of,
 };
-pub use wants::{Wants, kinds_of};

@@ -14,7 +14,7 @@ use Rattle.rt_http.specs.Readings.{IsHead, IsRefusedHead, IsSaid, head_says}
 use Rattle.rt_http.specs.Incomings.{Incoming, IsRefusedAt}
 use Rattle.rt_http.specs.declared.head.Head.{Head}
 use Rattle.rt_http.specs.declared.request.Begun.{Begun}
-use Rattle.rt_http.specs.declared.limits.TheConstants.{MAX_FIELDS, MAX_HEAD_BYTES}
+use Rattle.rt_http.specs.declared.fault.TheConstants.{MAX_FIELDS, MAX_HEAD_BYTES}
 use Rattle.rt_http.specs.declared.fault.Refusal.{Refusal}
 use Rattle.rt_http.specs.declared.fault.Refusal.TheVariants.{HeadTooLong, NoMemory}
 

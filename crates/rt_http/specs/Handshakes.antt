@@ -8,7 +8,7 @@ use Rattle.websocket.specs.Handshake.{IsValidKey, requested_key}
 use Rattle.websocket.specs.Headers.{fields_of}
 use Rattle.websocket.specs.declared.handshake.failure.HandshakeError.{HandshakeError}
 use Rattle.websocket.specs.declared.handshake.failure.HandshakeError.TheVariants as why
-use Rattle.rt_http.specs.declared.limits.TheConstants.{MAX_FIELDS}
+use Rattle.rt_http.specs.declared.fault.TheConstants.{MAX_FIELDS}
 use Rattle.rt_http.specs.declared.fault.Refusal.{Refusal}
 use Rattle.rt_http.specs.declared.fault.Refusal.TheVariants.{Malformed, NoHandshake, OtherVersion, NoMemory}
 

@@ -6,9 +6,9 @@ use Rattle.httparse.specs.Grammar.{HasNoRequest}
 use Rattle.rt_http.specs.Chunks.{AreRead}
 use Rattle.rt_http.specs.Heads.{Said}
 use Rattle.rt_http.specs.Readings.{IsHead, IsRefusedHead}
-use Rattle.rt_http.specs.declared.request.Turn.{Turn}
-use Rattle.rt_http.specs.declared.request.Turn.TheVariants as turn
-use Rattle.rt_http.specs.declared.limits.TheConstants.{MAX_HEAD_BYTES}
+use Rattle.rt_http.specs.declared.request.RequestProgress.{RequestProgress}
+use Rattle.rt_http.specs.declared.request.RequestProgress.TheVariants as turn
+use Rattle.rt_http.specs.declared.fault.TheConstants.{MAX_HEAD_BYTES}
 use Rattle.rt_http.specs.declared.head.Framing.{Framing}
 use Rattle.rt_http.specs.declared.head.Framing.TheVariants.{Length, Chunked}
 use Rattle.rt_http.specs.declared.head.Marks.{Marks}
@@ -96,7 +96,7 @@ IsTaken Chunked a b =
 -- ---- turns
 
 -- what is to be done, where the request waits to go on or not
-abbrev pub turn_of : Bool → Incoming → Turn
+abbrev pub turn_of : Bool → Incoming → RequestProgress
 turn_of waits a =
     if a.is_whole then turn.Whole else (if waits && not a.was_told then turn.GoOn else turn.More)
 
@@ -106,29 +106,29 @@ told_if waits a =
     if a.is_whole then a else (if waits && not a.was_told then record a { was_told = true } else a)
 
 -- a turn with a request whose head came
-abbrev pub IsGone : Marks → Incoming → Turn → Incoming → Type 0
+abbrev pub IsGone : Marks → Incoming → RequestProgress → Incoming → Type 0
 IsGone marks a t b =
     (m : Incoming) × IsTaken marks.framing a m × (t ≡ turn_of marks.does_wait m)
     × (b ≡ told_if marks.does_wait m)
 
 -- a turn with the next request
-abbrev pub IsFirst : Incoming → Turn → Incoming → Type 0
+abbrev pub IsFirst : Incoming → RequestProgress → Incoming → Type 0
 IsFirst a t b =
     ((t ≡ turn.More) × IsOpen a × (b ≡ a))
     ⊎ ((t ≡ turn.Upgrade) × IsHandshake a b)
     ⊎ ((marks : Marks) × (m : Incoming) × IsHeadTaken a marks m × IsGone marks m t b)
 
 -- a turn of a request, if there is one
-abbrev pub IsTurnOf : Option Said → Incoming → Turn → Incoming → Type 0
+abbrev pub IsTurnOf : Option Said → Incoming → RequestProgress → Incoming → Type 0
 IsTurnOf None a t b = IsFirst a t b
 IsTurnOf (Some said) a t b = IsGone said.marks a t b
 
 -- a turn
-abbrev pub IsTurnIf : Bool → Incoming → Turn → Incoming → Type 0
+abbrev pub IsTurnIf : Bool → Incoming → RequestProgress → Incoming → Type 0
 IsTurnIf true a t b = (t ≡ turn.Whole) × (b ≡ a)
 IsTurnIf false a t b = IsTurnOf a.request a t b
 
-abbrev pub IsTurn : Incoming → Turn → Incoming → Type 0
+abbrev pub IsTurn : Incoming → RequestProgress → Incoming → Type 0
 IsTurn a t b = IsTurnIf a.is_whole a t b
 
 -- ---- refusals

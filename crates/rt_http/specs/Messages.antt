@@ -21,9 +21,9 @@ use Rattle.rt_http.specs.declared.ask.Ask.{Ask}
 use Rattle.rt_http.specs.declared.ask.Ask.TheVariants as ask
 use Rattle.rt_http.specs.declared.fault.Fault.{Fault}
 use Rattle.rt_http.specs.declared.fault.Fault.TheVariants as fault
-use Rattle.rt_http.specs.declared.message.TheConstants.{ONLY}
-use Rattle.rt_http.specs.declared.message.Wanted.{Wanted}
-use Rattle.rt_http.specs.declared.message.Wanted.TheVariants as wanted
+use Rattle.rt_http.specs.declared.answer.TheConstants.{ONLY}
+use Rattle.rt_http.specs.declared.answer.Wanted.{Wanted}
+use Rattle.rt_http.specs.declared.answer.Wanted.TheVariants as wanted
 
 -- ---- what a peer is asked
 

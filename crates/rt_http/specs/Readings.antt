@@ -5,7 +5,7 @@ use Rattle.httparse.specs.Spans.{RequestOverflows, name_and_value}
 use Rattle.httparse.specs.declared.Error.{Error}
 use Rattle.httparse.specs.declared.Error.TheVariants as error
 use Rattle.rt_http.specs.Heads.{Said, said_of}
-use Rattle.rt_http.specs.declared.limits.TheConstants.{MAX_FIELDS, MAX_HEAD_BYTES}
+use Rattle.rt_http.specs.declared.fault.TheConstants.{MAX_FIELDS, MAX_HEAD_BYTES}
 use Rattle.rt_http.specs.declared.head.Head.{Head}
 use Rattle.rt_http.specs.declared.fault.Refusal.{Refusal}
 use Rattle.rt_http.specs.declared.fault.Refusal.TheVariants.{Malformed, NoHandshake, OtherVersion, TooLong, Expectation}

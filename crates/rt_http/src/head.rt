@@ -14,8 +14,7 @@ ghost use Rattle.rt_http.specs.Marks.{coding_of, expectation_of, framing_of, fra
 ghost use Rattle.rt_http.specs.Marks.{length_of, marks_of, number_of, number_within};
 ghost use Rattle.rt_http.specs.Handshakes.{IsHandshakeLen, IsJudged, key_asked, refused_for};
 
-use crate::fault::Refusal;
-use crate::limits::{MAX_FIELDS, MAX_HEAD_BYTES};
+use crate::fault::{MAX_FIELDS, MAX_HEAD_BYTES, Refusal};
 use crate::request::Request;
 use httparse::spans::{EMPTY_HEADER_SPAN, HeaderSpan, RequestSpans, parse_request};
 use httparse::{EMPTY_HEADER, Error, Header, Status};

@@ -3,7 +3,7 @@
 //!
 //! ```text
 //! incoming.put(bytes)?;                                        // as they come
-//! while let Turn::Whole = incoming.turn()? {
+//! while let RequestProgress::Whole = incoming.turn()? {
 //!     let asked = read_ask(alloc, request, incoming.body())?;  // or a fault, which has a status and words
 //!     asked.ask.message(&key)?                                 // what a peer is asked
 //!     reply_of(alloc, wanted, body, key, &message)?            // once the peer has answered
@@ -17,18 +17,17 @@ mod answer;
 mod ask;
 mod fault;
 mod head;
-mod limits;
-mod message;
 mod request;
 mod resource;
 
 pub use answer::{
-    GO_ON, HEALTHY, Status, error_text, laid_out, put_answer, put_file_head, refusal_text, reply_of,
+    GO_ON, HEALTHY, ONLY, Status, Wanted, error_text, laid_out, put_answer, put_file_head,
+    refusal_text, reply_of,
 };
 pub use ask::{Ask, Asked, read_ask};
-pub use fault::{Fault, Refusal};
+pub use fault::{
+    Fault, MAX_CHUNK_LINE, MAX_FIELDS, MAX_FILE_BYTES, MAX_HEAD_BYTES, MAX_TRAILERS, Refusal,
+};
 pub use head::{Framing, Marks, Method, Unsupported, handshake_len};
-pub use limits::{MAX_CHUNK_LINE, MAX_FIELDS, MAX_FILE_BYTES, MAX_HEAD_BYTES, MAX_TRAILERS};
-pub use message::{ONLY, Wanted};
-pub use request::{Incoming, Request, Turn};
+pub use request::{Incoming, Request, RequestProgress};
 pub use resource::named_path;

@@ -11,9 +11,8 @@ ghost use Rattle.rt_http.specs.inside.Begun.{IsBegun};
 ghost use Rattle.rt_http.specs.Chunks.{AreRead, IsPieceAt};
 ghost use Rattle.rt_http.specs.inside.Pieces.{IsDataAt, IsLastAt};
 
-use crate::fault::Refusal;
+use crate::fault::{MAX_CHUNK_LINE, MAX_HEAD_BYTES, MAX_TRAILERS, Refusal};
 use crate::head::{Framing, Head, Marks, marks_of, only, read, refusal_of};
-use crate::limits::{MAX_CHUNK_LINE, MAX_HEAD_BYTES, MAX_TRAILERS};
 use httparse::spans::{EMPTY_HEADER_SPAN, parse_headers};
 use httparse::{Header, Status, parse_chunk_size};
 use std::alloc::{AllocError, Global};
@@ -160,7 +159,7 @@ impl Request {
 
 /// What is to be done once bytes have come.
 #[derive(Clone, Copy)]
-pub enum Turn {
+pub enum RequestProgress {
     /// Nothing: more bytes have to come.
     More,
     /// The client is told to go on, and more bytes have to come.
@@ -364,22 +363,22 @@ impl Incoming {
     }
 
     // What is to be done once what came of a body was taken, and the request waits to go on or not.
-    fn awaited(&mut self, does_wait: bool) -> Turn
+    fn awaited(&mut self, does_wait: bool) -> RequestProgress
         ensures turn { result ≡ turn_of does_wait self.old }
         ensures told { self.new ≡ told_if does_wait self.old }
     {
         if self.is_whole {
-            return Turn::Whole;
+            return RequestProgress::Whole;
         }
         if does_wait && !self.was_told {
             self.was_told = true;
-            return Turn::GoOn;
+            return RequestProgress::GoOn;
         }
-        Turn::More
+        RequestProgress::More
     }
 
     // Goes on with the request whose head came.
-    fn go_on(&mut self, marks: Marks) -> Result<Turn, Refusal>
+    fn go_on(&mut self, marks: Marks) -> Result<RequestProgress, Refusal>
         ensures gone { IfOk result (λ turn. IsGone marks self.old turn self.new) }
         ensures refused { IfErr result (IsRefusedBody marks.framing) }
     {
@@ -388,13 +387,13 @@ impl Incoming {
     }
 
     // Begins with the next request.
-    fn first(&mut self) -> Result<Turn, Refusal>
+    fn first(&mut self) -> Result<RequestProgress, Refusal>
         ensures first { IfOk result (λ turn. IsFirst self.old turn self.new) }
         ensures refused { IfErr result (IsRefusedFirst self.old) }
     {
         match self.begin()? {
-            Begun::More => Ok(Turn::More),
-            Begun::Upgrade => Ok(Turn::Upgrade),
+            Begun::More => Ok(RequestProgress::More),
+            Begun::Upgrade => Ok(RequestProgress::Upgrade),
             Begun::Head(marks) => self.go_on(marks),
         }
     }
@@ -404,12 +403,12 @@ impl Incoming {
     /// # Errors
     ///
     /// Why the bytes are no request that is taken. Nothing more is read of the connection then.
-    pub fn turn(&mut self) -> Result<Turn, Refusal>
+    pub fn turn(&mut self) -> Result<RequestProgress, Refusal>
         ensures turn { IfOk result (λ turn. IsTurn self.old turn self.new) }
         ensures refused { IfErr result (IsRefusedTurn self.old) }
     {
         if self.is_whole {
-            return Ok(Turn::Whole);
+            return Ok(RequestProgress::Whole);
         }
         match &self.request {
             None => self.first(),

@@ -17,7 +17,7 @@ use Rattle.rt_hub.specs.Refusing.{given_answers, text_answers}
 use Rattle.rt_hub.specs.Turns.{AreMade, HasHeard, HasHeardIn, Hears, HearsTurn, IsNext, IsTurn}
 use Rattle.rt_hub.specs.Turns.{all_accepted, calls_of, given_accepted, given_call, next_count, request_of}
 use Rattle.rt_hub.specs.Turns.{text_accepted, text_call}
-use Rattle.rt_hub.specs.declared.door.Heard.{Heard}
+use Rattle.rt_hub.specs.declared.door.DoorRead.{DoorRead}
 use Rattle.rt_hub.specs.declared.hub.Notes.{Notes}
 use Rattle.rt_hub.specs.declared.turn.Turn.{Turn}
 use Rattle.rt_hub.specs.declared.turn.Turn.TheVariants.{Idle, More, Ended}
@@ -181,7 +181,7 @@ hears_text n text a b p q t u g m s e k = record {
 -- ---- turns
 
 -- a turn ends as the door says, behind what it took before
-pub turn_ends : (turn : Turn) (said : Heard) (k most n : ℕ) (a b c : Option Hub)
+pub turn_ends : (turn : Turn) (said : DoorRead) (k most n : ℕ) (a b c : Option Hub)
     (p q r : Option (List (Option (List ℕ)))) (t u v : Notes) → k < most
     → IsNext (Some turn) said → Hears k n a b p q t u → Hears (next_count (Some turn)) n b c q r u v
     → HearsTurn turn most n a c p r t v
@@ -191,7 +191,7 @@ turn_ends More said k most n a b c p q r t u v lt is x y = absurd is
 turn_ends Ended said k most n a b c p q r t u v lt is x y =
     (k + 0, omega (arith, lt), hears_more k 0 n a b c p q r t u v x y)
 
-pub turn_is : (turn : Turn) (said : Heard) → IsNext (Some turn) said → IsTurn turn said
+pub turn_is : (turn : Turn) (said : DoorRead) → IsNext (Some turn) said → IsTurn turn said
 turn_is Idle said is = is
 turn_is More said is = absurd is
 turn_is Ended said is = is

@@ -19,8 +19,8 @@ use Rattle.rt_hub.specs.Lines.{text_of}
 use Rattle.rt_hub.specs.declared.refusal.Asks.{Asks}
 use Rattle.rt_hub.specs.declared.refusal.Asks.TheVariants.{Put, Merge, Cancel}
 use Rattle.rt_hub.specs.declared.refusal.Fault.{Fault}
-use Rattle.rt_hub.specs.declared.refusal.Place.{Place}
-use Rattle.rt_hub.specs.declared.refusal.Place.TheVariants as At
+use Rattle.rt_hub.specs.declared.refusal.MemberName.{MemberName}
+use Rattle.rt_hub.specs.declared.refusal.MemberName.TheVariants as At
 use Rattle.rt_hub.specs.declared.refusal.Wrong.{Wrong}
 use Rattle.rt_hub.specs.declared.refusal.Wrong.TheVariants.{Missing, NoText, NoEntries, Unfit}
 
@@ -76,7 +76,7 @@ abbrev pub entries_wrong : Data → Option Wrong
 entries_wrong d = option_map_or members_wrong (field as_object (codes "entries") d) (Some NoEntries)
 
 -- what is wrong, and where
-abbrev pub at : Place → Option Wrong → Option Fault
+abbrev pub at : MemberName → Option Wrong → Option Fault
 at place wrong = option_map (λ w. record { place = place; wrong = w }) wrong
 
 abbrev pub fault_in : Asks → Data → Option Fault
@@ -86,7 +86,7 @@ fault_in Cancel d = at At.Path (path_wrong d)
 
 -- ---- in words
 
-abbrev pub place_words : Place → List ℕ
+abbrev pub place_words : MemberName → List ℕ
 place_words At.Path = codes "bad path: "
 place_words At.Value = codes "bad value: "
 place_words At.Entries = codes "bad entries: "

@@ -16,8 +16,8 @@ use Rattle.rt_hub.specs.declared.refusal.Verdict.TheVariants as Is
 use Rattle.rt_hub.specs.declared.refusal.When.{When}
 use Rattle.rt_hub.specs.Doors.{Gives}
 use Rattle.rt_hub.specs.Refusing.{given_answers}
-use Rattle.rt_hub.specs.declared.door.Heard.{Heard}
-use Rattle.rt_hub.specs.declared.door.Heard.TheVariants as Says
+use Rattle.rt_hub.specs.declared.door.DoorRead.{DoorRead}
+use Rattle.rt_hub.specs.declared.door.DoorRead.TheVariants as Says
 use Rattle.rt_hub.specs.declared.hub.Accepted.{Accepted}
 use Rattle.rt_hub.specs.declared.hub.Notes.{Notes}
 use Rattle.rt_hub.specs.declared.turn.Turn.{Turn}
@@ -109,7 +109,7 @@ next_count None = 1
 next_count (Some turn) = 0
 
 -- a turn goes on where the door gave a message, and else ends as the door says
-abbrev pub IsNext : Option Turn → Heard → Type 0
+abbrev pub IsNext : Option Turn → DoorRead → Type 0
 IsNext None said = (said ≡ Says.Text) ⊎ (said ≡ Says.Other)
 IsNext (Some Idle) said = said ≡ Says.Nothing
 IsNext (Some More) said = ⊥
@@ -127,7 +127,7 @@ HearsTurn turn most n old new had has was is =
     (count : ℕ) × IsCount turn most count × Hears count n old new had has was is
 
 -- a turn that doesn't end for that ends as the door says
-abbrev pub IsTurn : Turn → Heard → Type 0
+abbrev pub IsTurn : Turn → DoorRead → Type 0
 IsTurn Idle said = said ≡ Says.Nothing
 IsTurn More said = ⊤
 IsTurn Ended said = said ≡ Says.Ended

@@ -11,7 +11,7 @@ ghost use Rattle.rt_hub.specs.Verdicts.{verdict_of, verdict_when};
 ghost use Rattle.rt_hub.specs.inside.Lined.{AreLinedOf, IsDone};
 
 use crate::door::{Bar, bar_of, refusal};
-use crate::queue::Waiting;
+use crate::lines::Waiting;
 use crate::refusal::{Bounds, Verdict, When, verdict_when, when_in};
 use rt_peer::{Peer, Sent};
 use rt_wire::ClientMessage;

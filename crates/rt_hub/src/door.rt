@@ -3,7 +3,7 @@ ghost use Rattle.std.specs.Prelude.{◌≡◌, ◌∷◌, [], ℕ, List, Option,
 ghost use Rattle.std.specs.Prelude.{if◌then◌else◌};
 ghost use Rattle.rt_hub.specs.Doors.{Gives, Takes, given_by};
 ghost use Rattle.rt_hub.specs.declared.door.Flushed.{Flushed};
-ghost use Rattle.rt_hub.specs.declared.door.Heard.{Heard};
+ghost use Rattle.rt_hub.specs.declared.door.DoorRead.{DoorRead};
 ghost use Rattle.rt_peer.specs.Calls.{one};
 ghost use Rattle.rt_hub.specs.Bounded.{answer_of, asked_bar, bar_of, grows_too_long, reason_of, said_by};
 ghost use Rattle.rt_hub.specs.Bounded.{shows_too_long};
@@ -19,7 +19,7 @@ use std::alloc::{AllocError, Global};
 
 /// What a door says when it is asked for a text.
 #[derive(Clone, Copy, Debug, PartialEq, Eq)]
-pub enum Heard {
+pub enum DoorRead {
     /// There is one.
     Text,
     /// There is a message that is no text.
@@ -53,7 +53,7 @@ pub trait Door {
     ghost given: { Self → List ℕ };
 
     // What it said last when it was asked for a text.
-    ghost said: { Self → Heard };
+    ghost said: { Self → DoorRead };
 
     // How its last flush went.
     ghost flushed: { Self → Flushed };
@@ -63,7 +63,7 @@ pub trait Door {
     /// # Errors
     ///
     /// Where memory lacks.
-    fn hear(&mut self) -> Result<Heard, AllocError>
+    fn hear(&mut self) -> Result<DoorRead, AllocError>
         ensures said { IfOk result (λ heard. said self.new ≡ heard) }
         ensures gives { IfOk result (λ heard.
             Gives (remaining self.old) (remaining self.new) (given_by heard (given self.new))) }

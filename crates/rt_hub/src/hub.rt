@@ -19,7 +19,7 @@ ghost use Rattle.rt_hub.specs.laws.Queues.{IsServedAll, SeesItsOwn};
 ghost use Rattle.rt_hub.specs.laws.Verdicts.{RefusedChangesNothing, RequestsAreJudged};
 
 use crate::calls::{answer, begin, end_some};
-use crate::queue::Waiting;
+use crate::lines::Waiting;
 use crate::refusal::{Bounds, MAX_LISTENS, Verdict, When};
 use rt_peer::{Peer, PeerError};
 use rt_query::Query;

@@ -37,11 +37,10 @@ mod examples;
 mod hub;
 mod lines;
 mod log;
-mod queue;
 mod refusal;
 mod turn;
 
-pub use door::{Door, Flushed, Heard};
+pub use door::{Door, DoorRead, Flushed};
 pub use examples::{line_examples, others_are_not_answered, refusals_say_why};
 pub use hub::{Accepted, Hub, Notes, TURN_ACTIONS, Taken, leave, queue_law, verdict_law};
 pub use refusal::{

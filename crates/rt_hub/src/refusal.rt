@@ -32,7 +32,7 @@ enum Asks {
 
 // Which member of a request is wrong.
 #[derive(Clone, Copy)]
-enum Place {
+enum MemberName {
     Path,
     Value,
     Entries,
@@ -54,7 +54,7 @@ enum Wrong {
 // What is wrong with a request, and where.
 #[derive(Clone, Copy)]
 struct Fault {
-    place: Place,
+    place: MemberName,
     wrong: Wrong,
 }
 
@@ -204,7 +204,7 @@ fn entries_wrong(alloc: Global, message: &Value) -> Result<Option<Wrong>, AllocE
 }
 
 // A fault at that place, if something is wrong.
-fn at(place: Place, wrong: Option<Wrong>) -> Option<Fault>
+fn at(place: MemberName, wrong: Option<Wrong>) -> Option<Fault>
     ensures { result ≡ at place wrong }
 {
     match wrong {
@@ -218,8 +218,8 @@ fn put_fault(alloc: Global, message: &Value) -> Result<Option<Fault>, AllocError
     ensures { IfOk result (λ fault. fault ≡ fault_in Asks.Put (view message.now)) }
 {
     match path_wrong(alloc, message)? {
-        Some(wrong) => Ok(at(Place::Path, Some(wrong))),
-        None => Ok(at(Place::Value, value_wrong(alloc, message)?)),
+        Some(wrong) => Ok(at(MemberName::Path, Some(wrong))),
+        None => Ok(at(MemberName::Value, value_wrong(alloc, message)?)),
     }
 }
 
@@ -229,20 +229,20 @@ fn fault_in(alloc: Global, asks: Asks, message: &Value) -> Result<Option<Fault>,
 {
     match asks {
         Asks::Put => put_fault(alloc, message),
-        Asks::Merge => Ok(at(Place::Entries, entries_wrong(alloc, message)?)),
-        Asks::Cancel => Ok(at(Place::Path, path_wrong(alloc, message)?)),
+        Asks::Merge => Ok(at(MemberName::Entries, entries_wrong(alloc, message)?)),
+        Asks::Cancel => Ok(at(MemberName::Path, path_wrong(alloc, message)?)),
     }
 }
 
-impl Place {
+impl MemberName {
     // How a reason begins.
     fn words(self) -> &'static str
         ensures { result.now ≡ place_words self }
     {
         match self {
-            Place::Path => "bad path: ",
-            Place::Value => "bad value: ",
-            Place::Entries => "bad entries: ",
+            MemberName::Path => "bad path: ",
+            MemberName::Value => "bad value: ",
+            MemberName::Entries => "bad entries: ",
         }
     }
 }

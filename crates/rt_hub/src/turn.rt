@@ -10,7 +10,7 @@ ghost use Rattle.rt_hub.specs.Turns.{request_of, text_accepted, text_call};
 ghost use Rattle.rt_hub.specs.Handing.{Fewer, Hands, IsPassed, PassesFewer, handed_by};
 ghost use Rattle.rt_hub.specs.declared.turn.TheConstants.{ROUNDS};
 
-use crate::door::{Door, Flushed, Heard};
+use crate::door::{Door, DoorRead, Flushed};
 use crate::hub::{Accepted, Hub, Notes, Taken};
 use crate::log;
 use crate::refusal::{Verdict, When, refusal_of};
@@ -150,13 +150,13 @@ fn take_next<D: Door, L: Log>(
         ⊎ (e ≡ PeerError.NoMemory)) }
 {
     match door.hear() {
-        Ok(Heard::Text) => {
+        Ok(DoorRead::Text) => {
             take_text(alloc, hub, connection, door.text(), notes, log)?;
             Ok(None)
         }
-        Ok(Heard::Other) => Ok(None),
-        Ok(Heard::Nothing) => Ok(Some(Turn::Idle)),
-        Ok(Heard::Ended) => Ok(Some(Turn::Ended)),
+        Ok(DoorRead::Other) => Ok(None),
+        Ok(DoorRead::Nothing) => Ok(Some(Turn::Idle)),
+        Ok(DoorRead::Ended) => Ok(Some(Turn::Ended)),
         Err(_) => Err(PeerError::NoMemory),
     }
 }

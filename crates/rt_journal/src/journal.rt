@@ -9,22 +9,18 @@ ghost use Rattle.rt_journal.specs.Journals.{KeepsNotes, appended, notice_text};
 ghost use Rattle.rt_journal.specs.declared.fault.Notice.TheVariants.{TornLine};
 ghost use Rattle.rt_journal.specs.inside.Places.{names_in};
 
-use crate::book::{Book, Noted};
+use crate::book::{Book, Noted, Replayed};
 use crate::fault::{JournalFault, Notice, line_of};
-use crate::file::{Gone, Making, POLL_MS, due_after, read_whole, write_tree};
-use crate::line::LineFault;
-use crate::place::{
-    FileStamp, Place, is_locked, locked, made_beside, may_make, metadata_at, plain_at, resolved,
-    stamp_at, sync_folder, take_leavings,
+use crate::file::{
+    FileStamp, Gone, Making, POLL_MS, TreeFiles, due_after, made_beside, may_make, plain_at,
+    read_file, resolved, stamp_at, sync_folder, take_leavings, write_tree,
 };
-use crate::replay::{Replayed, replay_over};
-use crate::trouble::trouble_in;
+use crate::log::{begin_log, leave_none, log_of, replay_log};
 use rt_tree::Tree;
 use std::alloc::{AllocError, AllocGlobal, Global};
-use std::fs::{self, File, Metadata};
-use std::io::{self, ErrorKind, Read, Write};
+use std::fs::{self, File};
+use std::io::{self, ErrorKind, Write};
 use std::marker::Model;
-use std::os::unix::fs::MetadataExt;
 use std::random::RandomSource;
 use std::rt::Files;
 use std::thread::Threads;
@@ -50,7 +46,7 @@ struct Standing {
 /// of the files, and what stands of the tree's file.
 pub struct Journal {
     alloc: Global,
-    place: Place,
+    place: TreeFiles,
     log: File,
     book: Book,
     // What was written to the journal since a copy of the tree was taken for the file that is being made.
@@ -134,46 +130,10 @@ impl Opened {
 }
 
 // Where the file of that name stands.
-fn placed<Y: Files>(system: &Y, alloc: Global, file: String) -> Result<Place, JournalFault> {
+fn placed<Y: Files>(system: &Y, alloc: Global, file: String) -> Result<TreeFiles, JournalFault> {
     match resolved(system, alloc, file.as_str()) {
-        Ok(name) => Ok(Place::of(alloc, name)?),
+        Ok(name) => Ok(TreeFiles::of(alloc, name)?),
         Err(why) => Err(JournalFault::unread(alloc, file.as_str(), why)),
-    }
-}
-
-// The mode that a journal is made with: who may not read the file may not read that either.
-fn mode_of_log(file: Option<&Metadata>) -> u32 {
-    match file {
-        Some(metadata) => metadata.mode() & 0o666,
-        None => 0o666,
-    }
-}
-
-// The journal, which nobody else has, and which is on the disk where lines are synced.
-fn locked_log<Y: Files<File = File>>(
-    system: &Y,
-    place: &Place,
-    is_synced: bool,
-) -> io::Result<Option<File>> {
-    let there = metadata_at(system, place.file.as_str())?;
-    let log = locked(system, place.log.as_str(), mode_of_log(there.as_ref()))?;
-    if is_synced {
-        sync_folder(system, place.log.as_str())?;
-    }
-    Ok(log)
-}
-
-// The journal, or why it is not had.
-fn log_of<Y: Files<File = File>>(
-    system: &Y,
-    alloc: Global,
-    place: &Place,
-    is_synced: bool,
-) -> Result<File, JournalFault> {
-    match locked_log(system, place, is_synced) {
-        Ok(Some(log)) => Ok(log),
-        Ok(None) => Err(JournalFault::locked(alloc, place.file.as_str())),
-        Err(why) => Err(JournalFault::unwritten(alloc, place.log.as_str(), why)),
     }
 }
 
@@ -191,107 +151,12 @@ fn prepare<Y: Files<File = File> + RandomSource + AllocGlobal>(
     }
 }
 
-// The text of the file, and what the file was when it was read; none where there is no file.
-fn text_of<Y: Files<File = File>>(
-    system: &Y,
-    alloc: Global,
-    file: &str,
-) -> io::Result<Option<(String, FileStamp)>> {
-    let Some(there) = metadata_at(system, file)? else {
-        return Ok(None);
-    };
-    if !there.is_file() {
-        return Err(io::Error::new(ErrorKind::InvalidInput, "it is no plain file"));
-    }
-    let open = File::open(system, file)?;
-    let stamp = FileStamp::of(&open.metadata()?);
-    let text = io::read_to_string(alloc, open)?;
-    Ok(Some((text, stamp)))
-}
-
-// The tree of the file's text.
-fn tree_of(alloc: Global, file: &str, text: &str) -> Result<Tree, JournalFault> {
-    match read_whole(alloc, text) {
-        Ok(tree) => Ok(tree),
-        Err(why) => Err(JournalFault::no_tree(alloc, file, trouble_in(alloc, text, why)?)),
-    }
-}
-
-/// The tree of a file, which is read once and left as it is.
-///
-/// # Errors
-///
-/// `Unread` where the file isn't there or can't be read, `NoTree` where it has no tree, each with the file's
-/// name; `NoMemory` where memory is lacking.
-pub fn tree_in<Y: Files<File = File> + AllocGlobal>(
-    system: &Y,
-    file: &str,
-) -> Result<Tree, JournalFault> {
-    let alloc = system.alloc();
-    match text_of(system, alloc, file) {
-        Ok(Some((text, _))) => tree_of(alloc, file, text.as_str()),
-        Ok(None) => Err(JournalFault::unread(alloc, file, io::Error::from(ErrorKind::NotFound))),
-        Err(why) => Err(JournalFault::unread(alloc, file, why)),
-    }
-}
-
-// The tree of the file, and what the file was when it was read; the first tree where there is no file.
-fn read_file<Y: Files<File = File>>(
-    system: &Y,
-    alloc: Global,
-    file: &str,
-    first: Tree,
-) -> Result<(Tree, Option<FileStamp>), JournalFault> {
-    match text_of(system, alloc, file) {
-        Ok(Some((text, stamp))) => Ok((tree_of(alloc, file, text.as_str())?, Some(stamp))),
-        Ok(None) => Ok((first, None)),
-        Err(why) => Err(JournalFault::unread(alloc, file, why)),
-    }
-}
-
-// What the journal's file holds.
-fn bytes_of(alloc: Global, log: &mut File) -> io::Result<Vec<u8>> {
-    let mut bytes = Vec::new(alloc);
-    log.read_to_end(&mut bytes)?;
-    Ok(bytes)
-}
-
-// Does what the journal says over the tree, and answers how many bytes of it stand in whole lines.
-fn replay_log(
-    alloc: Global,
-    log: &mut File,
-    name: &str,
-    tree: Tree,
-) -> Result<(Replayed, u64), JournalFault> {
-    let bytes = match bytes_of(alloc, log) {
-        Ok(bytes) => bytes,
-        Err(why) => return Err(JournalFault::unread(alloc, name, why)),
-    };
-    match replay_over(alloc, tree, bytes.as_slice()) {
-        Ok(replayed) => {
-            let whole = bytes.len().saturating_sub(replayed.torn);
-            Ok((replayed, whole as u64))
-        }
-        Err(LineFault::BadLine) => Err(JournalFault::bad_line(alloc, name)),
-        Err(LineFault::NoMemory) => Err(JournalFault::NoMemory),
-    }
-}
-
-// Takes a journal away that was made for nothing.
-fn leave_none<Y: Files>(system: &Y, log: &File, name: &str) {
-    if let Ok(metadata) = log.metadata() {
-        if metadata.len() == 0 {
-            let _gone = fs::remove_file(system, name);
-        }
-    }
-}
-
 // The tree of the file and its journal, what the file was when it was read, and how many bytes of the journal
 // stand in whole lines.
 fn read_all<Y: Files<File = File> + RandomSource + AllocGlobal>(
     system: &Y,
     alloc: Global,
-    place: &Place,
+    place: &TreeFiles,
     log: &mut File,
     first: Tree,
 ) -> Result<(Replayed, Option<FileStamp>, u64), JournalFault> {
@@ -329,7 +194,7 @@ impl Journal {
     // the ends that stand in no line are written.
     fn of(
         alloc: Global,
-        place: Place,
+        place: TreeFiles,
         log: File,
         length: u64,
         standing: Standing,
@@ -746,19 +611,6 @@ impl Journal {
             None
         })
     }
-}
-
-// Writes to a new journal, which nobody else has, what it begins with and what was written since.
-fn begin_log(log: &mut File, anew: &[u8], since: &[u8], is_synced: bool) -> io::Result<()> {
-    if !is_locked(log)? {
-        return Err(io::Error::from(ErrorKind::WouldBlock));
-    }
-    log.write_all(anew)?;
-    log.write_all(since)?;
-    if is_synced {
-        log.sync_data()?;
-    }
-    Ok(())
 }
 
 // A journal with what came of its replay.

@@ -6,8 +6,8 @@ use Rattle.serde_json.specs.Data.{Data, Members, member}
 use Rattle.serde_json.specs.Find.{as_array}
 use Rattle.serde_json.specs.View.{items_view}
 use Rattle.serde_json.specs.declared.value.Value.{Value}
-use Rattle.rt_lines.specs.declared.call.Call.{Call as CodeCall}
-use Rattle.rt_lines.specs.Calls.{Call, call_in, calls_in, calls_of}
+use Rattle.rt_lines.specs.declared.call.QueryCall.{QueryCall as CodeCall}
+use Rattle.rt_lines.specs.Calls.{QueryCall, call_in, calls_in, calls_of}
 use Rattle.rt_lines.specs.Forms.{all_parts, part_in, part_words, parts_in}
 use Rattle.rt_lines.specs.Words.{elements, random_in, twelve_of}
 use Rattle.rt_lines.specs.Reading.{and_then, path_in, tree_in, in_front, entries_in}
@@ -17,14 +17,14 @@ use Rattle.rt_tree.specs.PathTree.{Path, PathTree}
 use Rattle.rt_lines.proofs.Parts.{elements-items_of}
 use Rattle.rt_lines.specs.inside.FormView.{as_call, as_calls, views}
 
-joined : (found : List CodeCall) (call : CodeCall) (o : Option (List Call))
+joined : (found : List CodeCall) (call : CodeCall) (o : Option (List QueryCall))
     → option_map (λ rest. as_calls found ++ rest) (option_map (λ rest. as_call call ∷ rest) o) ≡ option_map (λ rest. as_calls (found ++ call ∷ []) ++ rest) o
 joined found call None = refl
 joined found call (Some rest) =
     ap Some (sym (append_assoc (as_calls found) (as_call call ∷ []) rest) ∙ ap (λ xs. xs ++ rest) (sym (map-append as_call found (call ∷ []))))
 
 -- the next call goes behind the others
-pub calls-more : (all : Option (List Call)) (found : List CodeCall) (d : Data) (ds : List Data) (call : CodeCall)
+pub calls-more : (all : Option (List QueryCall)) (found : List CodeCall) (d : Data) (ds : List Data) (call : CodeCall)
     → all ≡ option_map (λ rest. as_calls found ++ rest) (calls_of (d ∷ ds))
     → Some (as_call call) ≡ call_in d → all ≡ option_map (λ rest. as_calls (found ++ call ∷ []) ++ rest) (calls_of ds)
 calls-more all found d ds call h is =

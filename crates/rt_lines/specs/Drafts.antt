@@ -14,7 +14,7 @@ use Rattle.rt_lines.specs.declared.call.BoundCall.TheVariants.{EqualTo}
 use Rattle.rt_lines.specs.declared.error.LineError.{LineError}
 use Rattle.rt_lines.specs.declared.error.LineError.TheVariants.{Refused}
 use Rattle.rt_lines.specs.declared.error.Refusal.TheVariants as refusal
-use Rattle.rt_lines.specs.Calls.{Call, OrderByKey, OrderByValue, OrderByChild, LimitToFirst}
+use Rattle.rt_lines.specs.Calls.{QueryCall, OrderByKey, OrderByValue, OrderByChild, LimitToFirst}
 use Rattle.rt_lines.specs.Calls.{LimitToLast, Bound}
 use Rattle.rt_lines.specs.Reading.{and_then, path_in, mark_in}
 
@@ -32,7 +32,7 @@ allowed None draft = Ok draft
 allowed (Some e) draft = Err (Refused (refusal.Query e))
 
 -- a draft after a call
-abbrev pub called : Call → Draft → Result Draft LineError
+abbrev pub called : QueryCall → Draft → Result Draft LineError
 called OrderByKey d = allowed (order_refusal d) (ordered_by index.Key d)
 called OrderByValue d = allowed (order_refusal d) (ordered_by index.Value d)
 called (OrderByChild path) d =
@@ -44,11 +44,11 @@ called (Bound bound value key) d =
     (bounded_by (bound_of bound) mark key d))
 
 -- a draft after calls, one after another
-abbrev pub drafted : List Call → Draft → Result Draft LineError
+abbrev pub drafted : List QueryCall → Draft → Result Draft LineError
 drafted [] d = Ok d
 drafted (call ∷ calls) d = and_then (called call d) (drafted calls)
 
 -- the query of a path and calls
-abbrev pub query_in : List ℕ → List Call → Result Query LineError
+abbrev pub query_in : List ℕ → List QueryCall → Result Query LineError
 query_in path calls =
     and_then (path_in path) (λ p. and_then (drafted calls (new_draft p)) (λ d. Ok (finished d)))

@@ -3,7 +3,7 @@ use Rattle.std.specs.Prelude.{ℕ, List, [], ◌∷◌, bytes_eq, codes, if◌th
 use Rattle.std.specs.Prelude.{option_map, option_and_then}
 use Rattle.serde_json.specs.Data.{Data as Json, Members}
 use Rattle.serde_json.specs.Find.{as_array, as_object, as_str}
-use Rattle.rt_lines.specs.Calls.{Call, calls_in}
+use Rattle.rt_lines.specs.Calls.{QueryCall, calls_in}
 use Rattle.rt_lines.specs.Words.{elements, named_in, random_in, seat_in, whole}
 
 -- what a write sets: a value at a path, several values at their paths, or nothing at a path
@@ -14,7 +14,7 @@ pub data Written : Type 0 where
 
 -- a line of one of the forms: numbers, texts, calls and JSON data, as they stand there
 pub data LineForm : Type 0 where
-  Listen : ℕ → List ℕ → List Call → LineForm
+  Listen : ℕ → List ℕ → List QueryCall → LineForm
   Unlisten : ℕ → ℕ → LineForm
   Write : ℕ → Written → LineForm
   OnDisconnect : ℕ → Written → LineForm

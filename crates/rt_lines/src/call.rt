@@ -29,7 +29,7 @@ pub(crate) enum BoundCall {
 
 /// A call of one of the forms, its words as they stand there.
 #[derive(Clone, Copy)]
-pub(crate) enum Call<'a> {
+pub(crate) enum QueryCall<'a> {
     /// `["orderByKey"]`
     OrderByKey,
     /// `["orderByValue"]`
@@ -55,39 +55,39 @@ pub(crate) enum Call<'a> {
 }
 
 // A call without words.
-fn lone<'a>(call: Call<'a>, words: &[Value]) -> Option<Call<'a>>
+fn lone<'a>(call: QueryCall<'a>, words: &[Value]) -> Option<QueryCall<'a>>
     ensures { option_map as_call result ≡ lone_call (as_call call.entry) (views words.now) }
 {
     if words.is_empty() { Some(call) } else { None }
 }
 
-fn child(words: &[Value]) -> Option<Call<'_>>
+fn child(words: &[Value]) -> Option<QueryCall<'_>>
     ensures { option_map as_call result ≡ child_call (views words.now) }
 {
     let [path] = words else {
         return None;
     };
-    Some(Call::OrderByChild {
+    Some(QueryCall::OrderByChild {
         path: path.as_str()?,
     })
 }
 
-fn first(words: &[Value]) -> Option<Call<'_>>
+fn first(words: &[Value]) -> Option<QueryCall<'_>>
     ensures { option_map as_call result ≡ limit_call calls.LimitToFirst (views words.now) }
 {
     let [n] = words else {
         return None;
     };
-    Some(Call::LimitToFirst { n: count_of(n)? })
+    Some(QueryCall::LimitToFirst { n: count_of(n)? })
 }
 
-fn last(words: &[Value]) -> Option<Call<'_>>
+fn last(words: &[Value]) -> Option<QueryCall<'_>>
     ensures { option_map as_call result ≡ limit_call calls.LimitToLast (views words.now) }
 {
     let [n] = words else {
         return None;
     };
-    Some(Call::LimitToLast { n: count_of(n)? })
+    Some(QueryCall::LimitToLast { n: count_of(n)? })
 }
 
 // A value that may be in a cut: null, a truth value, a number or a text.
@@ -100,16 +100,16 @@ fn scalar_of(value: &Value) -> Option<&Value>
     }
 }
 
-fn bound(bound: BoundCall, words: &[Value]) -> Option<Call<'_>>
+fn bound(bound: BoundCall, words: &[Value]) -> Option<QueryCall<'_>>
     ensures { option_map as_call result ≡ bound_call bound (views words.now) }
 {
     match words {
-        [value] => Some(Call::Bound {
+        [value] => Some(QueryCall::Bound {
             bound,
             value: scalar_of(value)?,
             key: None,
         }),
-        [value, key] => Some(Call::Bound {
+        [value, key] => Some(QueryCall::Bound {
             bound,
             value: scalar_of(value)?,
             key: Some(key.as_str()?),
@@ -133,12 +133,12 @@ fn bound_of_name(name: &str) -> Option<BoundCall>
 }
 
 // A call of that name.
-fn named<'a>(name: &str, words: &'a [Value]) -> Option<Call<'a>>
+fn named<'a>(name: &str, words: &'a [Value]) -> Option<QueryCall<'a>>
     ensures { option_map as_call result ≡ named_call name.now (views words.entry.now) }
 {
     match name {
-        "orderByKey" => lone(Call::OrderByKey, words),
-        "orderByValue" => lone(Call::OrderByValue, words),
+        "orderByKey" => lone(QueryCall::OrderByKey, words),
+        "orderByValue" => lone(QueryCall::OrderByValue, words),
         "orderByChild" => child(words),
         "limitToFirst" => first(words),
         "limitToLast" => last(words),
@@ -147,7 +147,7 @@ fn named<'a>(name: &str, words: &'a [Value]) -> Option<Call<'a>>
 }
 
 // The call that a JSON value is, or none where it has none of the forms.
-fn call_of(value: &Value) -> Option<Call<'_>>
+fn call_of(value: &Value) -> Option<QueryCall<'_>>
     ensures { option_map as_call result ≡ call_in (data_of value.now) }
 {
     let (name, words) = parts_of(value)?;
@@ -155,7 +155,7 @@ fn call_of(value: &Value) -> Option<Call<'_>>
 }
 
 // The calls that JSON values are, each of one of the forms.
-fn calls_of<'a>(alloc: Global, values: &'a [Value]) -> Result<Vec<Call<'a>>, LineError>
+fn calls_of<'a>(alloc: Global, values: &'a [Value]) -> Result<Vec<QueryCall<'a>>, LineError>
     ensures ok { IfOk result (λ found. calls_of (views values.entry.now)
         ≡ Some (as_calls found.items)) }
     ensures err { IfErr result (λ e. (e ≡ LineError.Bad) × (calls_of (views values.entry.now) ≡ None)
@@ -170,7 +170,7 @@ fn calls_of<'a>(alloc: Global, values: &'a [Value]) -> Result<Vec<Call<'a>>, Lin
 
 /// The calls of an array.
 #[tactic(auto, using(crate::proofs::Lists::calls_in_array))]
-pub(crate) fn calls_in(alloc: Global, value: &Value) -> Result<Vec<Call<'_>>, LineError>
+pub(crate) fn calls_in(alloc: Global, value: &Value) -> Result<Vec<QueryCall<'_>>, LineError>
     ensures ok { IfOk result (λ found. calls_in (data_of value.entry.now)
         ≡ Some (as_calls found.items)) }
     ensures err { IfErr result (λ e. (e ≡ LineError.Bad) × (calls_in (data_of value.entry.now) ≡ None)
@@ -210,18 +210,18 @@ fn set_bound(
 
 // Makes a call: its own words are looked at first, then the draft.
 #[tactic(auto, using(crate::proofs::Faults::query_fault, crate::proofs::Faults::allowed_ok))]
-fn make(alloc: Global, draft: &mut Draft, call: Call<'_>) -> Result<(), LineError>
+fn make(alloc: Global, draft: &mut Draft, call: QueryCall<'_>) -> Result<(), LineError>
     ensures ok { OnOk result (called (as_call call.entry) draft.old ≡ Ok draft.new) }
     ensures fault { IfErr result (λ e. (called (as_call call.entry) draft.old ≡ Err e)
         ⊎ (e ≡ LineError.NoMemory)) }
 {
     match call {
-        Call::OrderByKey => draft.order_by_key()?,
-        Call::OrderByValue => draft.order_by_value()?,
-        Call::OrderByChild { path } => draft.order_by_child(path_of(alloc, path)?)?,
-        Call::LimitToFirst { n } => draft.limit_to_first(n)?,
-        Call::LimitToLast { n } => draft.limit_to_last(n)?,
-        Call::Bound { bound, value, key } => {
+        QueryCall::OrderByKey => draft.order_by_key()?,
+        QueryCall::OrderByValue => draft.order_by_value()?,
+        QueryCall::OrderByChild { path } => draft.order_by_child(path_of(alloc, path)?)?,
+        QueryCall::LimitToFirst { n } => draft.limit_to_first(n)?,
+        QueryCall::LimitToLast { n } => draft.limit_to_last(n)?,
+        QueryCall::Bound { bound, value, key } => {
             set_bound(draft, bound, mark_of(alloc, value)?, key)?;
         }
     }
@@ -229,7 +229,7 @@ fn make(alloc: Global, draft: &mut Draft, call: Call<'_>) -> Result<(), LineErro
 }
 
 // Makes calls, one after another.
-fn make_all(alloc: Global, draft: Draft, calls: Vec<Call<'_>>) -> Result<Draft, LineError>
+fn make_all(alloc: Global, draft: Draft, calls: Vec<QueryCall<'_>>) -> Result<Draft, LineError>
     ensures ok { IfOk result (λ made. drafted (as_calls calls.entry.items) draft ≡ Ok made) }
     ensures fault { IfErr result (λ e. (drafted (as_calls calls.entry.items) draft ≡ Err e)
         ⊎ (e ≡ LineError.NoMemory)) }
@@ -242,7 +242,11 @@ fn make_all(alloc: Global, draft: Draft, calls: Vec<Call<'_>>) -> Result<Draft, 
 }
 
 /// The query of a path and calls.
-pub(crate) fn query_of(alloc: Global, path: &str, calls: Vec<Call<'_>>) -> Result<Query, LineError>
+pub(crate) fn query_of(
+    alloc: Global,
+    path: &str,
+    calls: Vec<QueryCall<'_>>,
+) -> Result<Query, LineError>
     ensures ok { IfOk result (λ query. query_in path.now (as_calls calls.entry.items) ≡ Ok query) }
     ensures fault { IfErr result (λ e. (query_in path.now (as_calls calls.entry.items) ≡ Err e)
         ⊎ (e ≡ LineError.NoMemory)) }

@@ -10,7 +10,7 @@ ghost use Rattle.rt_lines.specs.Forms.{unlisten_form, update_words, view_form, w
 ghost use Rattle.rt_lines.specs.Forms.{written_in};
 ghost use Rattle.rt_lines.specs.inside.FormView.{as_form, as_part, as_parts, as_written, views};
 
-use crate::call::{Call, calls_in};
+use crate::call::{QueryCall, calls_in};
 use crate::error::LineError;
 use crate::words::{parts_of, random_of, seat_of};
 use serde_json::Value;
@@ -49,7 +49,7 @@ pub(crate) enum LineForm<'a> {
     Listen {
         seat: u64,
         path: &'a str,
-        calls: Vec<Call<'a>>,
+        calls: Vec<QueryCall<'a>>,
     },
     /// `["unlisten",seat,listener]`
     Unlisten {

@@ -6,7 +6,7 @@ ghost use Rattle.rt_lines.specs.Lines.{unmarked};
 ghost use Rattle.rt_lines.specs.Forms as form;
 ghost use Rattle.rt_lines.specs.inside.FormView.{as_calls, as_form, as_parts, as_written};
 
-use crate::call::{Call, query_of};
+use crate::call::{QueryCall, query_of};
 use crate::error::{LineError, Refusal};
 use crate::form::{LineForm, PartWords, Written, form_of};
 use crate::words::{action_of, entries_of, parts_read, path_of, tree_of};
@@ -53,7 +53,12 @@ fn reason_of(alloc: Global, why: &str) -> Result<Reason, LineError>
 }
 
 // A listen of a seat.
-fn listen(alloc: Global, seat: u64, path: &str, calls: Vec<Call<'_>>) -> Result<Line, LineError>
+fn listen(
+    alloc: Global,
+    seat: u64,
+    path: &str,
+    calls: Vec<QueryCall<'_>>,
+) -> Result<Line, LineError>
     ensures ok { IfOk result (λ line. line_in (form.Listen seat path.now (as_calls calls.entry.items))
         ≡ Ok line) }
     ensures fault { IfErr result (λ e.

@@ -7,7 +7,7 @@ ghost use Rattle.rt_lines.specs.Typing.{push_in, push_of, typed_named, typed_of_
 ghost use Rattle.rt_lines.specs.Typing.{view_in};
 ghost use Rattle.rt_lines.specs.Forms as form;
 
-use crate::call::{Call as QueryCall, query_of};
+use crate::call::{QueryCall, query_of};
 use crate::error::{LineError, LinesTaken};
 use crate::form::{LineForm, Written, named};
 use crate::line::value_of;

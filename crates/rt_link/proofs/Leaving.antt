@@ -9,8 +9,8 @@ use Rattle.rt_socket.specs.declared.wire.Flushed.TheVariants as flush
 use Rattle.rt_link.specs.Carrying.{Standing, Shaking, Open, Closing, Gone, Carried, Closes, GoesOn, IsLeft, PassesOver, Turns}
 use Rattle.rt_link.specs.Carrying.{left_standing}
 use Rattle.rt_link.specs.Turning.{is_awaited, left_by, AwaitsEnd, Parts, SeesOff}
-use Rattle.rt_link.specs.declared.connection.Turn.{Turn}
-use Rattle.rt_link.specs.declared.connection.Turn.TheVariants as turn
+use Rattle.rt_link.specs.declared.connection.LinkTurn.{LinkTurn}
+use Rattle.rt_link.specs.declared.connection.LinkTurn.TheVariants as turn
 use Rattle.rt_link.specs.declared.link.Parting.{Parting}
 use Rattle.rt_link.specs.declared.link.Parting.TheVariants.{Over}
 use Rattle.rt_link.specs.declared.turn.Passed.{Passed}
@@ -22,25 +22,25 @@ left_so false new e = inr e
 
 -- ---- a server that is left is seen off
 
-awaits_parts : (p : Patience) (is_more : Bool) (t : Turn) → AwaitsEnd p is_more t → Parts t
+awaits_parts : (p : Patience) (is_more : Bool) (t : LinkTurn) → AwaitsEnd p is_more t → Parts t
 awaits_parts (patience.Wait millis) true t e = subst (λ x. Parts x) (sym e) tt
 awaits_parts (patience.Wait millis) false t e = subst (λ x. Parts x) (sym e.2) tt
 awaits_parts patience.Ping is_more t e = subst (λ x. Parts x) (sym e) tt
 awaits_parts patience.GiveUp is_more t e = subst (λ x. Parts x) (sym e) tt
 
-pub sees_off_parts : (f : Flushed) (p : Patience) (is_more : Bool) (t : Turn) → SeesOff f p is_more t → Parts t
+pub sees_off_parts : (f : Flushed) (p : Patience) (is_more : Bool) (t : LinkTurn) → SeesOff f p is_more t → Parts t
 sees_off_parts flush.Done p is_more t e = awaits_parts p is_more t e
 sees_off_parts flush.Blocked p is_more t e = awaits_parts p is_more t e
 sees_off_parts (flush.Failed why) p is_more t e = subst (λ x. Parts x) (sym e) tt
 
-pub awaited : (t : Turn) (new : Standing) → Parts t → is_awaited (Ok t) ≡ true → new ≡ Closing
+pub awaited : (t : LinkTurn) (new : Standing) → Parts t → is_awaited (Ok t) ≡ true → new ≡ Closing
     → GoesOn Closing t new
 awaited (turn.Idle most) new p a e = e
 awaited turn.More new p a e = e
 awaited (turn.NotOpened why) new p a e = absurd p
 awaited (turn.Ended why) new p a e = absurd (search rules)
 
-pub awaited_no_more : (t : Turn) (new : Standing) → Parts t → is_awaited (Ok t) ≡ false → new ≡ Gone
+pub awaited_no_more : (t : LinkTurn) (new : Standing) → Parts t → is_awaited (Ok t) ≡ false → new ≡ Gone
     → GoesOn Closing t new
 awaited_no_more (turn.Idle most) new p a e = absurd (search rules)
 awaited_no_more turn.More new p a e = absurd (search rules)
@@ -54,7 +54,7 @@ gone_is_left : (new : Standing) → new ≡ Gone → IsLeft new
 gone_is_left new e = subst (λ s. IsLeft s) (sym e) tt
 
 -- it stays left
-pub stays_left : (old new : Standing) (t : Turn) → IsLeft old → Turns old t new → IsLeft new
+pub stays_left : (old new : Standing) (t : LinkTurn) → IsLeft old → Turns old t new → IsLeft new
 stays_left Shaking new t l h = absurd l
 stays_left Open new t l h = absurd l
 stays_left Closing new (turn.Idle most) l h = closing_is_left new h
@@ -63,7 +63,7 @@ stays_left Closing new (turn.NotOpened why) l h = absurd h
 stays_left Closing new (turn.Ended why) l h = gone_is_left new h
 stays_left Gone new t l h = gone_is_left new h.1
 
-gone_so : (old new : Standing) (t : Turn) → Over ≡ left_by t → IsLeft old → Turns old t new → new ≡ Gone
+gone_so : (old new : Standing) (t : LinkTurn) → Over ≡ left_by t → IsLeft old → Turns old t new → new ≡ Gone
 gone_so Shaking new t o l h = absurd l
 gone_so Open new t o l h = absurd l
 gone_so Closing new (turn.Idle most) o l h = absurd (search rules)
@@ -73,7 +73,7 @@ gone_so Closing new (turn.Ended why) o l h = h
 gone_so Gone new t o l h = h.1
 
 -- and is gone where that is over
-pub over_is_gone : (old new : Standing) (t : Turn) (p : Parting) → p ≡ left_by t → p ≡ Over → IsLeft old
+pub over_is_gone : (old new : Standing) (t : LinkTurn) (p : Parting) → p ≡ left_by t → p ≡ Over → IsLeft old
     → Turns old t new → new ≡ Gone
 over_is_gone old new t p e o l h = gone_so old new t (sym o ∙ e) l h
 

@@ -2,9 +2,9 @@
 use Rattle.std.specs.Prelude.{◌≡◌, ◌≢◌, ◌⊎◌, ◌++◌, ⊤, Bool, true, false, List, []}
 use Rattle.rt_link.specs.declared.connection.LinkStage.{LinkStage}
 use Rattle.rt_link.specs.declared.connection.LinkStage.TheVariants as stage
-use Rattle.rt_link.specs.declared.connection.Turn.{Turn}
-use Rattle.rt_link.specs.declared.connection.Turn.TheVariants as turn
-use Rattle.rt_socket.specs.declared.lost.Lost.TheVariants as lost
+use Rattle.rt_link.specs.declared.connection.LinkTurn.{LinkTurn}
+use Rattle.rt_link.specs.declared.connection.LinkTurn.TheVariants as turn
+use Rattle.rt_socket.specs.declared.wire.Lost.TheVariants as lost
 use Rattle.rt_link.specs.declared.turn.Passed.{Passed}
 
 -- its handshake is not done, or it stands; the client has said that it goes; it is gone
@@ -38,21 +38,21 @@ standing_of stage.Gone = Gone
 -- ---- a turn
 
 -- a handshake is waited for, is done, or fails
-abbrev pub Shakes : Turn → Standing → Type 0
+abbrev pub Shakes : LinkTurn → Standing → Type 0
 Shakes (turn.Idle most) new = new ≡ Shaking
 Shakes turn.More new = new ≡ Open
 Shakes (turn.NotOpened why) new = new ≡ Gone
 Shakes (turn.Ended why) new = ⊥
 
 -- a connection goes on as it stands, or ends
-abbrev pub GoesOn : Standing → Turn → Standing → Type 0
+abbrev pub GoesOn : Standing → LinkTurn → Standing → Type 0
 GoesOn old (turn.Idle most) new = new ≡ old
 GoesOn old turn.More new = new ≡ old
 GoesOn old (turn.NotOpened why) new = ⊥
 GoesOn old (turn.Ended why) new = new ≡ Gone
 
 -- what a turn says, and where the connection stands then
-abbrev pub Turns : Standing → Turn → Standing → Type 0
+abbrev pub Turns : Standing → LinkTurn → Standing → Type 0
 Turns Shaking t new = Shakes t new
 Turns Open t new = GoesOn Open t new
 Turns Closing t new = GoesOn Closing t new

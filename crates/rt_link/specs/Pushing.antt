@@ -8,9 +8,9 @@ use Rattle.rt_world.specs.declared.step.Call.TheVariants.{Write}
 use Rattle.rt_client.specs.declared.error.ClientError.{ClientError}
 use Rattle.rt_client.specs.Calls.{Locked, Seated}
 use Rattle.rt_client.specs.Waiting.{IsNumbered, IsUnmade}
-use Rattle.rt_link.specs.declared.push.Pushed.{Pushed}
-use Rattle.rt_link.specs.declared.push.Unpushed.{Unpushed}
-use Rattle.rt_link.specs.declared.push.Unpushed.TheVariants as unpushed
+use Rattle.rt_link.specs.declared.turn.Pushed.{Pushed}
+use Rattle.rt_link.specs.declared.turn.Unpushed.{Unpushed}
+use Rattle.rt_link.specs.declared.turn.Unpushed.TheVariants as unpushed
 
 -- a key is the push id that a locked value gives for some moment and some random digits
 pub record IsPushKey (key : List ℕ) : Type 0 where

@@ -3,7 +3,7 @@ ghost use Rattle.std.specs.Prelude.{◌≡◌, [], IfOk, IfErr, OnOk};
 ghost use Rattle.rt_link.specs.Carrying.{Closes, Fails, GoesOn, PassesOver, Shakes, Turns};
 ghost use Rattle.rt_link.specs.Turning.{is_awaited, is_sent, AwaitsEnd, Parts, SeesOff};
 ghost use Rattle.rt_link.specs.inside.Rounds.{RefusesEnd};
-ghost use Rattle.rt_link.specs.declared.connection.Turn.TheVariants.{Ended};
+ghost use Rattle.rt_link.specs.declared.connection.LinkTurn.TheVariants.{Ended};
 ghost use Rattle.rt_link.specs.Carrying.{begun, is_open, left_standing, standing_of, Closing, Gone, Open, Shaking};
 
 use crate::error::LinkFault;
@@ -94,7 +94,7 @@ impl<S: Read + Write + Drop, N: RandomSource + Drop> LinkStage<S, N> {
 
 /// What a turn of a connection leaves to be done.
 #[derive(Debug, Drop)]
-pub enum Turn {
+pub enum LinkTurn {
     /// Nothing, until something comes, or so long.
     Idle(Duration),
     /// There may be more at once.
@@ -180,48 +180,48 @@ fn is_sent(flushed: Flushed) -> bool
 }
 
 // The handshake has failed.
-fn not_opened(why: Result<Lost, AllocError>) -> Result<Turn, LinkFault>
+fn not_opened(why: Result<Lost, AllocError>) -> Result<LinkTurn, LinkFault>
     ensures { IfOk result (λ turn. Shakes turn Gone) }
 {
     match why {
-        Ok(why) => Ok(Turn::NotOpened(why)),
+        Ok(why) => Ok(LinkTurn::NotOpened(why)),
         Err(_) => Err(LinkFault::NoMemory),
     }
 }
 
 // Whether a connection that is left is still waited for.
-fn is_awaited(heard: &Result<Turn, LinkFault>) -> bool
+fn is_awaited(heard: &Result<LinkTurn, LinkFault>) -> bool
     ensures { result ≡ is_awaited heard.now }
 {
     match heard {
-        Ok(Turn::Idle(_) | Turn::More) => true,
-        Ok(Turn::NotOpened(_) | Turn::Ended(_)) | Err(_) => false,
+        Ok(LinkTurn::Idle(_) | LinkTurn::More) => true,
+        Ok(LinkTurn::NotOpened(_) | LinkTurn::Ended(_)) | Err(_) => false,
     }
 }
 
 // How long a server that is left is waited for, or that it is waited for no longer.
-fn still_there(patience: Patience, is_more: bool) -> Turn
+fn still_there(patience: Patience, is_more: bool) -> LinkTurn
     ensures { AwaitsEnd patience is_more result }
 {
     match patience {
-        Patience::Ping | Patience::GiveUp => Turn::Ended(Lost::Silent),
+        Patience::Ping | Patience::GiveUp => LinkTurn::Ended(Lost::Silent),
         Patience::Wait(millis) => {
             if is_more {
-                Turn::More
+                LinkTurn::More
             } else {
-                Turn::Idle(Duration::from_millis(millis))
+                LinkTurn::Idle(Duration::from_millis(millis))
             }
         }
     }
 }
 
 // The same, by what became of what this side has still to send.
-fn flushed_off(flushed: Flushed, patience: Patience, is_more: bool) -> Turn
+fn flushed_off(flushed: Flushed, patience: Patience, is_more: bool) -> LinkTurn
     ensures { SeesOff flushed patience is_more result }
 {
     match flushed {
         Flushed::Done | Flushed::Blocked => still_there(patience, is_more),
-        Flushed::Failed(why) => Turn::Ended(why),
+        Flushed::Failed(why) => LinkTurn::Ended(why),
     }
 }
 
@@ -283,7 +283,7 @@ impl<S: Read + Write + Drop, N: RandomSource + Drop> Connection<S, N> {
     /// `Client` where the client has failed, or somebody else has told it of a connection, and `NoMemory`:
     /// the connection is to be closed then. `System` where there is no clock. A connection that is gone
     /// answers `NotOpened`, with no reason but that it is closed.
-    pub fn turn<R: Wait + Clock>(&mut self, rt: &R, client: &Client) -> Result<Turn, LinkFault>
+    pub fn turn<R: Wait + Clock>(&mut self, rt: &R, client: &Client) -> Result<LinkTurn, LinkFault>
         ensures stands { IfOk result (λ turn. Turns self.old.standing turn self.new.standing) }
         ensures passed { OnOk result (PassesOver self.old self.new.passed) }
         ensures failed { IfErr result (λ e. Fails self.old.standing self.new.standing) }
@@ -292,12 +292,12 @@ impl<S: Read + Write + Drop, N: RandomSource + Drop> Connection<S, N> {
             LinkStage::Shaking(_) => self.shake(rt, client),
             LinkStage::Open(_) => self.carry(rt, client),
             LinkStage::Closing(_) => self.see_off(rt),
-            LinkStage::Gone => Ok(Turn::NotOpened(Lost::Closed)),
+            LinkStage::Gone => Ok(LinkTurn::NotOpened(Lost::Closed)),
         }
     }
 
     // Goes on with the handshake.
-    fn shake<R: Wait + Clock>(&mut self, rt: &R, client: &Client) -> Result<Turn, LinkFault>
+    fn shake<R: Wait + Clock>(&mut self, rt: &R, client: &Client) -> Result<LinkTurn, LinkFault>
         ensures failed { IfErr result (λ e. Fails Shaking self.new.standing) }
         ensures stands { IfOk result (λ turn. Shakes turn self.new.standing) }
         ensures passed { self.new.passed ≡ self.old.passed }
@@ -315,7 +315,7 @@ impl<S: Read + Write + Drop, N: RandomSource + Drop> Connection<S, N> {
         rt: &R,
         client: &Client,
         stage: LinkStage<S, N>,
-    ) -> Result<Turn, LinkFault>
+    ) -> Result<LinkTurn, LinkFault>
         ensures failed { IfErr result (λ e. Fails Shaking self.new.standing) }
         ensures stands { IfOk result (λ turn. Shakes turn self.new.standing) }
         ensures passed { self.new.passed ≡ self.old.passed }
@@ -326,13 +326,13 @@ impl<S: Read + Write + Drop, N: RandomSource + Drop> Connection<S, N> {
             LinkStage::Shaking(_) => self.await_hands(rt),
             LinkStage::Closing(_) | LinkStage::Gone => {
                 self.stage = LinkStage::Gone;
-                Ok(Turn::NotOpened(Lost::Closed))
+                Ok(LinkTurn::NotOpened(Lost::Closed))
             }
         }
     }
 
     // The handshake is done: the client is told of the connection.
-    fn open<R: Wait + Clock>(&mut self, rt: &R, client: &Client) -> Result<Turn, LinkFault>
+    fn open<R: Wait + Clock>(&mut self, rt: &R, client: &Client) -> Result<LinkTurn, LinkFault>
         ensures failed { self.old.standing ≡ Open
             → IfErr result (λ e. Fails Shaking self.new.standing) }
         ensures stands { self.old.standing ≡ Open
@@ -344,11 +344,11 @@ impl<S: Read + Write + Drop, N: RandomSource + Drop> Connection<S, N> {
             return Err(LinkFault::Client(why));
         }
         self.heard = Instant::now(rt)?;
-        Ok(Turn::More)
+        Ok(LinkTurn::More)
     }
 
     // The handshake goes on once more has come, or is given up.
-    fn await_hands<R: Clock>(&mut self, rt: &R) -> Result<Turn, LinkFault>
+    fn await_hands<R: Clock>(&mut self, rt: &R) -> Result<LinkTurn, LinkFault>
         ensures gone { IfErr result (λ e. self.new.standing ≡ Gone) }
         ensures stands { self.old.standing ≡ Shaking
             → IfOk result (λ turn. Shakes turn self.new.standing) }
@@ -364,21 +364,21 @@ impl<S: Read + Write + Drop, N: RandomSource + Drop> Connection<S, N> {
     }
 
     // The handshake is waited for, where there is patience.
-    fn wait_for(&mut self, patience: Patience) -> Turn
+    fn wait_for(&mut self, patience: Patience) -> LinkTurn
         ensures stands { self.old.standing ≡ Shaking → Shakes result self.new.standing }
         ensures passed { self.new.passed ≡ self.old.passed }
     {
         match patience {
-            Patience::Wait(millis) => Turn::Idle(Duration::from_millis(millis)),
+            Patience::Wait(millis) => LinkTurn::Idle(Duration::from_millis(millis)),
             Patience::Ping | Patience::GiveUp => {
                 self.stage = LinkStage::Gone;
-                Turn::NotOpened(Lost::Late)
+                LinkTurn::NotOpened(Lost::Late)
             }
         }
     }
 
     // Reads and sends, and then ends the connection or says how long is to be waited.
-    fn carry<R: Wait + Clock>(&mut self, rt: &R, client: &Client) -> Result<Turn, LinkFault>
+    fn carry<R: Wait + Clock>(&mut self, rt: &R, client: &Client) -> Result<LinkTurn, LinkFault>
         ensures stands { self.old.standing ≡ Open
             → IfOk result (λ turn. GoesOn Open turn self.new.standing) }
         ensures passed { OnOk result (PassesOver self.old self.new.passed) }
@@ -387,7 +387,7 @@ impl<S: Read + Write + Drop, N: RandomSource + Drop> Connection<S, N> {
     {
         match self.exchange(rt, client)? {
             SentOff::Done => self.be_patient(rt, client),
-            SentOff::More => Ok(Turn::More),
+            SentOff::More => Ok(LinkTurn::More),
             SentOff::Lost(why) => self.end(rt, client, why),
         }
     }
@@ -412,7 +412,11 @@ impl<S: Read + Write + Drop, N: RandomSource + Drop> Connection<S, N> {
     }
 
     // Says how long is to be waited for the server, or asks whether it is there, or gives it up.
-    fn be_patient<R: Wait + Clock>(&mut self, rt: &R, client: &Client) -> Result<Turn, LinkFault>
+    fn be_patient<R: Wait + Clock>(
+        &mut self,
+        rt: &R,
+        client: &Client,
+    ) -> Result<LinkTurn, LinkFault>
         ensures stands { self.old.standing ≡ Open
             → IfOk result (λ turn. GoesOn Open turn self.new.standing) }
         ensures passed { self.new.passed ≡ self.old.passed }
@@ -420,14 +424,14 @@ impl<S: Read + Write + Drop, N: RandomSource + Drop> Connection<S, N> {
             → IfErr result (λ e. Fails Open self.new.standing) }
     {
         match for_silence(millis_since(rt, self.heard)?, self.is_asked) {
-            Patience::Wait(millis) => Ok(Turn::Idle(Duration::from_millis(millis))),
+            Patience::Wait(millis) => Ok(LinkTurn::Idle(Duration::from_millis(millis))),
             Patience::Ping => self.ask(rt, client),
             Patience::GiveUp => self.end(rt, client, Lost::Silent),
         }
     }
 
     // Asks the server whether it is there.
-    fn ask<R: Wait>(&mut self, rt: &R, client: &Client) -> Result<Turn, LinkFault>
+    fn ask<R: Wait>(&mut self, rt: &R, client: &Client) -> Result<LinkTurn, LinkFault>
         ensures stands { self.old.standing ≡ Open
             → IfOk result (λ turn. GoesOn Open turn self.new.standing) }
         ensures passed { self.new.passed ≡ self.old.passed }
@@ -435,25 +439,25 @@ impl<S: Read + Write + Drop, N: RandomSource + Drop> Connection<S, N> {
             → IfErr result (λ e. Fails Open self.new.standing) }
     {
         let LinkStage::Open(socket) = &mut self.stage else {
-            return Ok(Turn::NotOpened(Lost::Closed));
+            return Ok(LinkTurn::NotOpened(Lost::Closed));
         };
         self.is_asked = true;
         match socket.ping()? {
             Some(why) => self.end(rt, client, why),
-            None => Ok(Turn::More),
+            None => Ok(LinkTurn::More),
         }
     }
 
     // The connection is gone, and the client is told of it.
     #[tactic(auto, using(crate::proofs::Rounds::not_told))]
-    fn end<R: Wait>(&mut self, rt: &R, client: &Client, why: Lost) -> Result<Turn, LinkFault>
+    fn end<R: Wait>(&mut self, rt: &R, client: &Client, why: Lost) -> Result<LinkTurn, LinkFault>
         ensures gone { self.new ≡ record (self.old) { standing = Gone } }
         ensures ended { IfOk result (λ turn. turn ≡ Ended why) }
         ensures refused { IfErr result RefusesEnd }
     {
         self.stage = LinkStage::Gone;
         match client.disconnected(rt) {
-            Ok(_) => Ok(Turn::Ended(why)),
+            Ok(_) => Ok(LinkTurn::Ended(why)),
             Err(fault) => {
                 drop(why);
                 Err(LinkFault::Client(fault))
@@ -463,7 +467,7 @@ impl<S: Read + Write + Drop, N: RandomSource + Drop> Connection<S, N> {
 
     // Passes over what the server still sends, until it goes too.
     #[tactic(auto, using(crate::proofs::Leaving::awaited, crate::proofs::Leaving::awaited_no_more))]
-    fn see_off<R: Clock>(&mut self, rt: &R) -> Result<Turn, LinkFault>
+    fn see_off<R: Clock>(&mut self, rt: &R) -> Result<LinkTurn, LinkFault>
         ensures gone { IfErr result (λ e. self.new.standing ≡ Gone) }
         ensures stands { self.old.standing ≡ Closing
             → IfOk result (λ turn. GoesOn Closing turn self.new.standing) }
@@ -478,13 +482,13 @@ impl<S: Read + Write + Drop, N: RandomSource + Drop> Connection<S, N> {
 
     // Reads what the server still sends, and drops it. Says how long it is waited for, or why it is not.
     #[tactic(auto, using(crate::proofs::Leaving::sees_off_parts))]
-    fn hear_off<R: Clock>(&mut self, rt: &R) -> Result<Turn, LinkFault>
+    fn hear_off<R: Clock>(&mut self, rt: &R) -> Result<LinkTurn, LinkFault>
         ensures kept { self.new ≡ self.old }
         ensures parts { IfOk result Parts }
     {
         let patience = for_end(millis_since(rt, self.heard)?);
         let LinkStage::Closing(socket) = &mut self.stage else {
-            return Ok(Turn::Ended(Lost::Closed));
+            return Ok(LinkTurn::Ended(Lost::Closed));
         };
         socket.allow(TURN_BYTES);
         let Batch { messages, pause } = hear_all(self.alloc, socket, BATCH)?;
@@ -492,7 +496,7 @@ impl<S: Read + Write + Drop, N: RandomSource + Drop> Connection<S, N> {
         match paced(pause, socket.left()) {
             Pause::Idle => Ok(flushed_off(socket.flush(), patience, false)),
             Pause::More => Ok(flushed_off(socket.flush(), patience, true)),
-            Pause::Ended(why) => Ok(Turn::Ended(why)),
+            Pause::Ended(why) => Ok(LinkTurn::Ended(why)),
         }
     }
 

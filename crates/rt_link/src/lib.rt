@@ -27,17 +27,15 @@ mod error;
 mod laws;
 mod link;
 mod linked;
-mod push;
 mod turn;
 
 pub use answers::{Answer, Answered};
-pub use connection::{Connection, Turn};
+pub use connection::{Connection, LinkTurn};
 pub use error::LinkFault;
 pub use laws::link_crossing_law;
 pub use link::{Link, LinkEnd};
 pub use linked::{Bell, Linked};
-pub use push::{Pushed, Unpushed};
 pub use rt_socket::{
     Batch, Flushed, Heard, Lost, Pause, Said, SocketFault, Wire, hear_all, say_all,
 };
-pub use turn::{Passed, take_all, take_batch};
+pub use turn::{Passed, Pushed, Unpushed, take_all, take_batch};

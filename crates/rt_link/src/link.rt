@@ -5,7 +5,7 @@ ghost use Rattle.rt_link.specs.inside.Counts.{counted};
 ghost use Rattle.rt_link.specs.Keeping.{PassesMore, WaitsBehind};
 ghost use Rattle.rt_link.specs.Turning.{left_by, next};
 
-use crate::connection::{Connection, Turn, millis_since};
+use crate::connection::{Connection, LinkTurn, millis_since};
 use crate::error::LinkFault;
 use crate::linked::{Bell, Linked};
 use mio::net::TcpStream;
@@ -60,17 +60,17 @@ enum LinkNext {
 }
 
 // What a run does after a turn, told to stop or not.
-fn next_of(turn: Turn, is_stopped: bool) -> LinkNext
+fn next_of(turn: LinkTurn, is_stopped: bool) -> LinkNext
     ensures { result ≡ next turn is_stopped }
 {
     if is_stopped {
         return LinkNext::End(LinkEnd::Stopped);
     }
     match turn {
-        Turn::Idle(most) => LinkNext::Sleep(most),
-        Turn::More => LinkNext::GoOn,
-        Turn::NotOpened(why) => LinkNext::End(LinkEnd::NotOpened(why)),
-        Turn::Ended(why) => LinkNext::End(LinkEnd::Ended(why)),
+        LinkTurn::Idle(most) => LinkNext::Sleep(most),
+        LinkTurn::More => LinkNext::GoOn,
+        LinkTurn::NotOpened(why) => LinkNext::End(LinkEnd::NotOpened(why)),
+        LinkTurn::Ended(why) => LinkNext::End(LinkEnd::Ended(why)),
     }
 }
 
@@ -85,13 +85,13 @@ enum Parting {
     Over,
 }
 
-fn left_by(turn: Turn) -> Parting
+fn left_by(turn: LinkTurn) -> Parting
     ensures { result ≡ left_by turn }
 {
     match &turn {
-        Turn::Idle(most) => Parting::Sleep(*most),
-        Turn::More => Parting::GoOn,
-        Turn::NotOpened(_) | Turn::Ended(_) => Parting::Over,
+        LinkTurn::Idle(most) => Parting::Sleep(*most),
+        LinkTurn::More => Parting::GoOn,
+        LinkTurn::NotOpened(_) | LinkTurn::Ended(_) => Parting::Over,
     }
 }
 

@@ -10,7 +10,7 @@ use Rattle.rt_view.specs.declared.change.Change.{Change}
 use Rattle.rt_view.specs.Changes.{replay}
 use Rattle.rt_mail.specs.declared.item.Item.{Item}
 use Rattle.rt_mail.specs.declared.item.Item.TheVariants as item
-use Rattle.rt_mail.specs.declared.receipt.Receipt.TheVariants.{Listened, Unlistened, Wrote, Asked}
+use Rattle.rt_mail.specs.declared.item.Receipt.TheVariants.{Listened, Unlistened, Wrote, Asked}
 use Rattle.rt_mail.specs.Mailbox.{Children, Known, nothing_known, taken, known_of, children_of, played, with_listener, without_listener, with_request, without_request}
 use Rattle.rt_mail.specs.laws.Replays.{heard_by, left_open, AreAbove, Rise, ChildrenAreReplayed, RequestsAreLeftOpen, NumbersRise}
 use Rattle.rt_mail.proofs.Places.{numbers, numbers-without, numbers-played}

@@ -7,7 +7,7 @@ use Rattle.rt_mail.specs.declared.error.MailError.TheVariants.{Failed, NoMemory}
 use Rattle.rt_mail.specs.declared.lane.TheConstants.{MAX_CAPACITY}
 use Rattle.rt_mail.specs.declared.item.Item.{Item}
 use Rattle.rt_mail.specs.declared.item.Item.TheVariants as item
-use Rattle.rt_mail.specs.declared.receipt.Receipt.{Receipt}
+use Rattle.rt_mail.specs.declared.item.Receipt.{Receipt}
 use Rattle.rt_mail.specs.Mailbox.{Known, taken, known_of}
 
 -- the items that are still to be taken, in order, and how many there is room for

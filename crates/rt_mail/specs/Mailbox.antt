@@ -7,8 +7,8 @@ use Rattle.rt_view.specs.declared.change.Change.{Change}
 use Rattle.rt_view.specs.Changes.{replay}
 use Rattle.rt_mail.specs.declared.item.Item.{Item}
 use Rattle.rt_mail.specs.declared.item.Item.TheVariants as item
-use Rattle.rt_mail.specs.declared.receipt.Receipt.{Receipt}
-use Rattle.rt_mail.specs.declared.receipt.Receipt.TheVariants.{Listened, Unlistened, Wrote, Asked}
+use Rattle.rt_mail.specs.declared.item.Receipt.{Receipt}
+use Rattle.rt_mail.specs.declared.item.Receipt.TheVariants.{Listened, Unlistened, Wrote, Asked}
 
 -- the rows of a view by their keys
 abbrev pub Children : Type 0

@@ -12,8 +12,8 @@ use Rattle.rt_view.specs.declared.change.Change.{Change}
 use Rattle.rt_view.specs.declared.change.Change.TheVariants as change
 use Rattle.rt_mail.specs.declared.item.Item.{Item}
 use Rattle.rt_mail.specs.declared.item.Item.TheVariants as item
-use Rattle.rt_mail.specs.declared.receipt.Receipt.{Receipt}
-use Rattle.rt_mail.specs.declared.receipt.Receipt.TheVariants.{Listened, Unlistened, Wrote, Asked}
+use Rattle.rt_mail.specs.declared.item.Receipt.{Receipt}
+use Rattle.rt_mail.specs.declared.item.Receipt.TheVariants.{Listened, Unlistened, Wrote, Asked}
 
 -- a listener's query, and what it shows as a tree; none while nothing is known of its path
 pub record Seen : Type 0 where

@@ -1,11 +1,13 @@
 // What a seat is told.
-ghost use Rattle.std.specs.Prelude.{◌≡◌, IfOk};
+ghost use Rattle.std.specs.Prelude.{◌≡◌, IfOk, List, [], ◌∷◌, ◌++◌};
 ghost use Rattle.std.specs.Option.{option_copied};
+ghost use Rattle.std.specs.Borrow.{ftrue};
 
-use crate::receipt::Receipt;
+use rt_query::Query;
 use rt_view::Batch;
-use rt_wire::Reason;
+use rt_wire::{Action, Ending, Reason};
 use std::alloc::{AllocError, Global};
+use std::marker::{Model, PhantomData};
 
 /// What a seat is told.
 #[derive(Drop)]
@@ -51,5 +53,106 @@ fn copy_reason(alloc: Global, why: Option<&Reason>) -> Result<Option<Reason>, Al
     match why {
         Some(why) => Ok(Some(why.copy(alloc)?)),
         None => Ok(None),
+    }
+}
+
+// ---- what a seat's own call is answered with
+
+/// What a seat's own call has made.
+#[derive(Drop)]
+pub enum Receipt {
+    /// A listener, with its query.
+    Listened { listener: u64, query: Query },
+    /// The end of a listener.
+    Unlistened { listener: u64 },
+    /// A write, with what it sets.
+    Wrote { id: u64, what: Action },
+    /// A request for the end of the connection, with what is to be done then.
+    Asked { id: u64, what: Ending },
+}
+
+impl Receipt {
+    /// An equal receipt. Its keys and trees are shared.
+    ///
+    /// # Errors
+    ///
+    /// Want of memory.
+    pub fn copy(&self, alloc: Global) -> Result<Receipt, AllocError>
+        ensures { IfOk result (λ receipt. receipt ≡ self.now) }
+    {
+        Ok(match self {
+            Receipt::Listened { listener, query } => Receipt::Listened {
+                listener: *listener,
+                query: query.copy()?,
+            },
+            Receipt::Unlistened { listener } => Receipt::Unlistened {
+                listener: *listener,
+            },
+            Receipt::Wrote { id, what } => Receipt::Wrote {
+                id: *id,
+                what: copy_action(alloc, what)?,
+            },
+            Receipt::Asked { id, what } => Receipt::Asked {
+                id: *id,
+                what: copy_ending(alloc, what)?,
+            },
+        })
+    }
+}
+
+// An equal action.
+fn copy_action(alloc: Global, action: &Action) -> Result<Action, AllocError>
+    ensures { IfOk result (λ copy. copy ≡ action.now) }
+{
+    Ok(match action {
+        Action::Put { path, tree } => Action::Put {
+            path: path.copy()?,
+            tree: tree.copy(alloc)?,
+        },
+        Action::Merge { entries } => Action::Merge {
+            entries: entries.copy()?,
+        },
+    })
+}
+
+// An equal ending.
+fn copy_ending(alloc: Global, ending: &Ending) -> Result<Ending, AllocError>
+    ensures { IfOk result (λ copy. copy ≡ ending.now) }
+{
+    Ok(match ending {
+        Ending::Run(action) => Ending::Run(copy_action(alloc, action)?),
+        Ending::Cancel(path) => Ending::Cancel(path.copy()?),
+    })
+}
+
+// ---- what was done before, for proofs alone
+
+/// Values in order, which clauses read as `items`. It has no bytes, takes no memory and owns nothing.
+#[derive(Drop)]
+pub struct History<T> {
+    of: PhantomData<T>,
+    pub ghost items: { List T },
+}
+
+impl<T> Model for History<T> {
+    ghost also_owns = { λ _. ftrue };
+}
+
+// It owns nothing.
+unsafe impl<T: Send> Send for History<T> {}
+
+impl<T> History<T> {
+    /// Of nothing.
+    pub fn new() -> History<T>
+        ensures { result.items ≡ [] }
+    {
+        History { of: PhantomData }
+    }
+
+    /// With one more value, last.
+    pub fn and(&self, next: &T) -> History<T>
+        ensures { result.items ≡ self.now.items ++ next.now ∷ [] }
+    {
+        History { of: PhantomData }
     }
 }

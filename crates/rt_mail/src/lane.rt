@@ -9,9 +9,7 @@ ghost use Rattle.rt_mail.specs.inside.Histories.{line_of};
 ghost use Rattle.rt_mail.specs.declared.item.Item.TheVariants as item;
 
 use crate::error::MailError;
-use crate::history::History;
-use crate::item::Item;
-use crate::receipt::Receipt;
+use crate::item::{History, Item, Receipt};
 use circular_buffer::HeapCircularBuffer;
 use std::alloc::{AllocError, Global};
 use std::collections::VecDeque;

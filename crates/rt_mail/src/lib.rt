@@ -32,18 +32,13 @@
 
 mod error;
 pub mod examples;
-mod history;
 mod item;
 mod lane;
 mod laws;
 mod mirror;
-mod receipt;
-mod snapshots;
 
 pub use error::MailError;
-pub use item::Item;
+pub use item::{Item, Receipt};
 pub use lane::{Inbox, Lane, MAX_CAPACITY, Unqueued};
 pub use laws::{order_law, replay_law, snapshot_law};
-pub use mirror::Mirror;
-pub use receipt::Receipt;
-pub use snapshots::{Snapshot, Snapshots};
+pub use mirror::{Mirror, Snapshot, Snapshots};

@@ -13,20 +13,20 @@ use Rattle.rt_tree.specs.PathTree.{Path}
 use Rattle.rt_tree.specs.Assignments.{Assignment, is_at_or_above}
 use Rattle.rt_peer.specs.Peers.{Deferred}
 use Rattle.rt_peer.specs.Calls.{has_entries, is_empty, without_below}
-use Rattle.rt_peer.specs.declared.actions.Place.{Place}
+use Rattle.rt_peer.specs.declared.actions.ActionKey.{ActionKey}
 use Rattle.rt_peer.specs.inside.Placed.{apart, cut_at, deferred_of, deferreds_of, has_place, is_bare, is_dirty, is_of, place_cmp}
 use Rattle.rt_peer.specs.inside.Placed.{AreByPlace, AreListed, PlacedActions}
 use Rattle.rt_peer.proofs.PlacedLaws.{after_equal, less_all, list_is, none_at, or_rest, other_way, place_exact}
 
 abbrev Entry : Type 0
-Entry = Place × List Assignment
+Entry = ActionKey × List Assignment
 
-abbrev at : Place → PlacedActions → Option (List Assignment)
+abbrev at : ActionKey → PlacedActions → Option (List Assignment)
 at p es = lookup (key_is (place_cmp p)) es
 
 -- ---- what a cut is to the map
 
-pub cut_gone : (p : Place) (q : Path) (v : List Assignment) (es : PlacedActions) → Some v ≡ at p es → is_empty (apart q v) ≡ true
+pub cut_gone : (p : ActionKey) (q : Path) (v : List Assignment) (es : PlacedActions) → Some v ≡ at p es → is_empty (apart q v) ≡ true
     → remove_entry (key_is (place_cmp p)) es ≡ cut_at p q es
 cut_gone p q v [] h bare = refl
 cut_gone p q v (e ∷ es) h bare =
@@ -39,7 +39,7 @@ cut_gone p q v (e ∷ es) h bare =
       | false ↦ λ g. ap (λ xs. e ∷ xs) (cut_gone p q v es g bare)
     ] h
 
-pub cut_left : (p : Place) (q : Path) (v : List Assignment) (es : PlacedActions) → AreByPlace es → Some v ≡ at p es
+pub cut_left : (p : ActionKey) (q : Path) (v : List Assignment) (es : PlacedActions) → AreByPlace es → Some v ≡ at p es
     → is_empty (apart q v) ≡ false → insert_entry place_cmp es p (apart q v) ≡ cut_at p q es
 cut_left p q v [] s h bare = absurd (true≢false (ap is_some h))
 cut_left p q v (e ∷ es) s h bare =
@@ -54,7 +54,7 @@ cut_left p q v (e ∷ es) s h bare =
       | Greater ↦ λ f g. ap (λ xs. e ∷ xs) (cut_left p q v es (sorted_tail place_cmp e.0 (keys_of es) s) g bare)
     ] refl h
 
-pub cut_none : (p : Place) (q : Path) (es : PlacedActions) → None ≡ at p es → es ≡ cut_at p q es
+pub cut_none : (p : ActionKey) (q : Path) (es : PlacedActions) → None ≡ at p es → es ≡ cut_at p q es
 cut_none p q [] h = refl
 cut_none p q (e ∷ es) h =
     elim (is_eq (place_cmp p e.0)) as (λ b. None ≡ cond b (Some e.1) (at p es)
@@ -100,13 +100,13 @@ cut_one n q e es own =
           ∙ sym (left_own n q e es own)
     ] refl
 
-pub cut_same : (n : ℕ) (p : Place) (q : Path) (es : PlacedActions) → p.connection ≡ n → to_leave n q (cut_at p q es) ≡ to_leave n q es
+pub cut_same : (n : ℕ) (p : ActionKey) (q : Path) (es : PlacedActions) → p.connection ≡ n → to_leave n q (cut_at p q es) ≡ to_leave n q es
 cut_same n p q [] own = refl
 cut_same n p q (e ∷ es) own =
     elim (is_eq (place_cmp p e.0)) as (λ b. is_eq (place_cmp p e.0) ≡ b
     → to_leave n q (if b then (if is_empty (apart q e.1) then es else (e.0, apart q e.1) ∷ es) else e ∷ cut_at p q es) ≡ to_leave n q (e ∷ es)) [
       | true ↦ λ f.
-          let mine : is_of n e ≡ true = ap (λ (k : Place). k.connection == n) (sym (place_exact p e.0 f)) ∙ ap (λ m. m == n) own ∙ itself n in
+          let mine : is_of n e ≡ true = ap (λ (k : ActionKey). k.connection == n) (sym (place_exact p e.0 f)) ∙ ap (λ m. m == n) own ∙ itself n in
           cut_one n q e es mine
       | false ↦ λ f. ap (λ ds. cond (has_entries (without_below n q (deferred_of e))) (without_below n q (deferred_of e) ∷ ds) ds) (cut_same n p q es own)
     ] refl
@@ -128,10 +128,10 @@ and_second : (a b : Bool) → (a && b) ≡ true → b ≡ true
 and_second true b e = e
 and_second false b e = absurd (true≢false (sym e))
 
-abbrev Listed : ℕ → Path → List Place → Entry → Type 0
+abbrev Listed : ℕ → Path → List ActionKey → Entry → Type 0
 Listed n q ps e = is_dirty n q e ≡ true → has_place ps e.0 ≡ true
 
-pub listed_cut : (n : ℕ) (p : Place) (q : Path) (ps : List Place) (es : PlacedActions) → AreByPlace es → AreListed n q (p ∷ ps) es
+pub listed_cut : (n : ℕ) (p : ActionKey) (q : Path) (ps : List ActionKey) (es : PlacedActions) → AreByPlace es → AreListed n q (p ∷ ps) es
     → AreListed n q ps (cut_at p q es)
 listed_cut n p q ps [] s h = λ k d lt. absurd (omega (arith, lt))
 listed_cut n p q ps (e ∷ es) s h =
@@ -200,16 +200,16 @@ all_clean n q (e ∷ es) h =
 
 -- ---- place by place
 
-pub listed_next : (n : ℕ) (q : Path) (p : Place) (rest places : List Place) (es left : PlacedActions) → places ≡ p ∷ rest
+pub listed_next : (n : ℕ) (q : Path) (p : ActionKey) (rest places : List ActionKey) (es left : PlacedActions) → places ≡ p ∷ rest
     → left ≡ cut_at p q es → AreByPlace es → AreListed n q places es → AreListed n q rest left
 listed_next n q p rest places es left steps is s listed =
     subst (AreListed n q rest) (sym is) (listed_cut n p q rest es s (subst (λ ps. AreListed n q ps es) steps listed))
 
-pub leaves_next : (n : ℕ) (q : Path) (p : Place) (es left first : PlacedActions) → left ≡ cut_at p q es → p.connection ≡ n
+pub leaves_next : (n : ℕ) (q : Path) (p : ActionKey) (es left first : PlacedActions) → left ≡ cut_at p q es → p.connection ≡ n
     → to_leave n q es ≡ to_leave n q first → to_leave n q left ≡ to_leave n q first
 leaves_next n q p es left first is own h = ap (to_leave n q) is ∙ cut_same n p q es own ∙ h
 
-pub all_left : (n : ℕ) (q : Path) (places : List Place) (es left first : PlacedActions) (now : List Deferred) → places ≡ []
+pub all_left : (n : ℕ) (q : Path) (places : List ActionKey) (es left first : PlacedActions) (now : List Deferred) → places ≡ []
     → left ≡ filter (λ e. not (is_bare e)) es → AreListed n q places es → to_leave n q es ≡ to_leave n q first
     → deferreds_of first ≡ now → deferreds_of left ≡ filter has_entries (map (without_below n q) now)
 all_left n q places es left first now none is listed h view =

@@ -19,8 +19,8 @@ use Rattle.std.proofs.lemmas.Map.Views.{All-after_first}
 use Rattle.rt_tree.specs.PathTree.{Path, path_cmp, paths_total, exact_paths}
 use Rattle.rt_tree.specs.Assignments.{Assignment, is_at_or_above}
 use Rattle.rt_peer.specs.Calls.{is_empty}
-use Rattle.rt_peer.specs.declared.actions.Place.{Place}
-use Rattle.rt_peer.specs.declared.entry_spots.EntrySpot.{EntrySpot}
+use Rattle.rt_peer.specs.declared.actions.ActionKey.{ActionKey}
+use Rattle.rt_peer.specs.declared.listens.EntrySpot.{EntrySpot}
 use Rattle.rt_peer.specs.inside.EntrySpots.{entry_spot_cmp, entry_spots_total, has_entry_spot, is_under}
 use Rattle.rt_peer.specs.inside.EntrySpots.{AllSpotted, AreListedUnder, AreOthersKept, AreSpotsKept, HasSpots}
 use Rattle.rt_peer.specs.inside.Placed.{apart, cut_at, has_place, is_bare, is_of, place_cmp, places_total}
@@ -30,7 +30,7 @@ use Rattle.rt_peer.proofs.PlacedLaws.{IsPlaceAdded, after_equal, place_added, pl
 use Rattle.rt_peer.proofs.SpotLaws.{le_then, zero_first}
 
 abbrev Entry : Type 0
-Entry = Place × List Assignment
+Entry = ActionKey × List Assignment
 
 -- ---- tests
 
@@ -119,13 +119,13 @@ run_through n q s t from less e =
 
 -- so where one is not in it, none behind it is
 run_over : (n : ℕ) (q : Path) (s : EntrySpot) (rest : List EntrySpot) → NotInFront n q s → IsStrictlySortedBy entry_spot_cmp (s ∷ rest)
-    → is_under n q s ≡ false → (places : List Place) → AreListedUnder n q places (s ∷ rest)
+    → is_under n q s ≡ false → (places : List ActionKey) → AreListedUnder n q places (s ∷ rest)
 run_over n q s rest from rise out places =
     All-cons (λ t. is_under n q t ≡ true → has_place places t.place ≡ true) s rest
     (λ e. absurd (true≢false (sym e ∙ out)))
     (λ k d lt e. absurd (true≢false (sym (run_through n q s (get_or rest k d) from (All-after_first entry_spot_cmp s rest rise k d lt) e) ∙ out)))
 
-least_place : (p : Place) → is_le (place_cmp (record { connection = p.connection; id = 0; arrival = 0 }) p) ≡ true
+least_place : (p : ActionKey) → is_le (place_cmp (record { connection = p.connection; id = 0; arrival = 0 }) p) ≡ true
 least_place p =
     le_then (nat_cmp p.connection p.connection) (ordering_then (nat_cmp 0 p.id) (nat_cmp 0 p.arrival)) (ap is_le (tied_itself nat_cmp_total p.connection))
     (le_then (nat_cmp 0 p.id) (nat_cmp 0 p.arrival) (zero_first p.id) (zero_first p.arrival))
@@ -164,12 +164,12 @@ from_filter keep P (s ∷ ks) f h =
 abbrev pub from : ℕ → Path → EntrySpot → Bool
 from n q s = is_le (entry_spot_cmp (first_entry_spot n q) s) && not false
 
-abbrev pub PlacesKept : List Place → List Place → Type 0
-PlacesKept old new = (p : Place) → has_place old p ≡ true → has_place new p ≡ true
+abbrev pub PlacesKept : List ActionKey → List ActionKey → Type 0
+PlacesKept old new = (p : ActionKey) → has_place old p ≡ true → has_place new p ≡ true
 
 -- who lists, beside these, those of what is left, lists all
-abbrev pub ListsAll : ℕ → Path → List EntrySpot → List EntrySpot → List Place → Type 0
-ListsAll n q ks left places = (all : List Place) → PlacesKept places all → AreListedUnder n q all left → AreListedUnder n q all ks
+abbrev pub ListsAll : ℕ → Path → List EntrySpot → List EntrySpot → List ActionKey → Type 0
+ListsAll n q ks left places = (all : List ActionKey) → PlacesKept places all → AreListedUnder n q all left → AreListedUnder n q all ks
 
 pub lists_begun : (n : ℕ) (q : Path) (ks left : List EntrySpot) → left ≡ filter (from n q) ks → ListsAll n q ks left []
 lists_begun n q ks left is all kept h =
@@ -189,7 +189,7 @@ begun_rising n q ks left is rise =
 
 -- ---- one more
 
-pub lists_more : (n : ℕ) (q : Path) (ks left rest : List EntrySpot) (s : EntrySpot) (places more : List Place) → left ≡ s ∷ rest
+pub lists_more : (n : ℕ) (q : Path) (ks left rest : List EntrySpot) (s : EntrySpot) (places more : List ActionKey) → left ≡ s ∷ rest
     → IsPlaceAdded s.place places more → ListsAll n q ks left places → ListsAll n q ks rest more
 lists_more n q ks left rest s places more is added h all kept listed =
     h all (λ p there. kept p (place_kept s.place places more added p there))
@@ -197,41 +197,41 @@ lists_more n q ks left rest s places more is added h all kept listed =
     (All-cons (λ t. is_under n q t ≡ true → has_place all t.place ≡ true) s rest
     (λ e. kept s.place (place_added s.place places more added)) listed))
 
-pub lists_over : (n : ℕ) (q : Path) (ks left rest : List EntrySpot) (s : EntrySpot) (places : List Place) → left ≡ s ∷ rest
+pub lists_over : (n : ℕ) (q : Path) (ks left rest : List EntrySpot) (s : EntrySpot) (places : List ActionKey) → left ≡ s ∷ rest
     → is_under n q s ≡ false → IsStrictlySortedBy entry_spot_cmp left → All (NotInFront n q) left → ListsAll n q ks left places
     → AreListedUnder n q places ks
 lists_over n q ks left rest s places is out rise behind h =
     h places (λ p there. there) (subst (AreListedUnder n q places) (sym is)
     (run_over n q s rest (All-head (NotInFront n q) s rest (subst (All (NotInFront n q)) is behind)) (subst (IsStrictlySortedBy entry_spot_cmp) is rise) out places))
 
-pub lists_done : (n : ℕ) (q : Path) (ks left : List EntrySpot) (places : List Place) → left ≡ [] → ListsAll n q ks left places
+pub lists_done : (n : ℕ) (q : Path) (ks left : List EntrySpot) (places : List ActionKey) → left ≡ [] → ListsAll n q ks left places
     → AreListedUnder n q places ks
 lists_done n q ks left places none h =
     h places (λ p there. there) (subst (AreListedUnder n q places) (sym none) (λ k d lt. absurd (omega (arith, lt))))
 
 -- the connection's
-own_at : (n : ℕ) (q : Path) (s : EntrySpot) (places more : List Place) (p : Place) → is_under n q s ≡ true → IsPlaceAdded s.place places more
-    → All (λ (r : Place). r.connection ≡ n) places → has_place more p ≡ true → p.connection ≡ n
+own_at : (n : ℕ) (q : Path) (s : EntrySpot) (places more : List ActionKey) (p : ActionKey) → is_under n q s ≡ true → IsPlaceAdded s.place places more
+    → All (λ (r : ActionKey). r.connection ≡ n) places → has_place more p ≡ true → p.connection ≡ n
 own_at n q s places more p e added h there = by (is_eq (place_cmp s.place p)) refl
   where
     by : (b : Bool) → is_eq (place_cmp s.place p) ≡ b → p.connection ≡ n
     by true f =
-        ap (λ (r : Place). r.connection) (sym (place_exact s.place p f))
+        ap (λ (r : ActionKey). r.connection) (sym (place_exact s.place p f))
         ∙ same_of s.place.connection n (and_first (s.place.connection == n) (is_at_or_above q s.path) e)
     by false f =
         let before : has_place places p ≡ true = ap (λ b. cond b true (has_place places p)) (sym f) ∙ sym (added p) ∙ there in
-        let r = Any-from_list_any (λ (o : Place). is_eq (place_cmp p o)) places before in
-        ap (λ (o : Place). o.connection) (place_exact p r.1 r.4 ∙ sym r.3) ∙ h r.0 r.1 r.2
+        let r = Any-from_list_any (λ (o : ActionKey). is_eq (place_cmp p o)) places before in
+        ap (λ (o : ActionKey). o.connection) (place_exact p r.1 r.4 ∙ sym r.3) ∙ h r.0 r.1 r.2
 
-pub own_more : (n : ℕ) (q : Path) (s : EntrySpot) (places more : List Place) → is_under n q s ≡ true → IsPlaceAdded s.place places more
-    → All (λ (p : Place). p.connection ≡ n) places → All (λ (p : Place). p.connection ≡ n) more
+pub own_more : (n : ℕ) (q : Path) (s : EntrySpot) (places more : List ActionKey) → is_under n q s ≡ true → IsPlaceAdded s.place places more
+    → All (λ (p : ActionKey). p.connection ≡ n) places → All (λ (p : ActionKey). p.connection ≡ n) more
 own_more n q s places more e added h k d lt =
     own_at n q s places more (get_or more k d) e added h (list_any_at (λ r. is_eq (place_cmp (get_or more k d) r)) more k d lt (ap is_eq (tied_itself places_total (get_or more k d))))
 
 -- ---- what the spots lead to
 
 -- the actions that have an entry there are listed
-pub dirty_listed : (n : ℕ) (q : Path) (places : List Place) (spots : List EntrySpot) (es : PlacedActions) → AllSpotted spots es
+pub dirty_listed : (n : ℕ) (q : Path) (places : List ActionKey) (spots : List EntrySpot) (es : PlacedActions) → AllSpotted spots es
     → AreListedUnder n q places spots → AreListed n q places es
 dirty_listed n q places spots es spotted listed k d lt dirty =
     let e : Entry = get_or es k d in
@@ -275,10 +275,10 @@ added_itself k old new e =
     e k ∙ ap (λ o. cond (is_eq o) true (list_any (λ t. is_eq (entry_spot_cmp k t)) old)) (tied_itself entry_spots_total k)
 
 -- the spots of the first entries are among these, and of one more
-abbrev pub AreFirstPut : List EntrySpot → Place → List Assignment → ℕ → Type 0
+abbrev pub AreFirstPut : List EntrySpot → ActionKey → List Assignment → ℕ → Type 0
 AreFirstPut spots p es n = (k : ℕ) (d : Assignment) → k < n → has_entry_spot spots p (get_or es k d).0 ≡ true
 
-pub first_more : (old new : List EntrySpot) (p : Place) (es : List Assignment) (n : ℕ) (a : Assignment) → n < length es → a ≡ get_or es n a
+pub first_more : (old new : List EntrySpot) (p : ActionKey) (es : List Assignment) (n : ℕ) (a : Assignment) → n < length es → a ≡ get_or es n a
     → AreSpotsKept old new → has_entry_spot new p a.0 ≡ true → AreFirstPut old p es n → AreFirstPut new p es (n + 1)
 first_more old new p es n a lt at kept here h k d low = by (nat_lt k n) refl
   where
@@ -298,7 +298,7 @@ never : (b : Bool) → (b ≡ true → ⊥) → b ≡ false
 never true h = absurd (h refl)
 never false h = refl
 
-pub others_taken : (at : Place) (under path : Path) (old new : List EntrySpot) → is_at_or_above under path ≡ true
+pub others_taken : (at : ActionKey) (under path : Path) (old new : List EntrySpot) → is_at_or_above under path ≡ true
     → IsSpotTaken (record { place = at; path = path }) old new → AreOthersKept at under old new
 others_taken at under path old new low taken p q other h =
     let k : EntrySpot = record { place = at; path = path } in
@@ -310,20 +310,20 @@ others_taken at under path old new low taken p q other h =
     true≢false (sym (λ i. place i && there i) ∙ other)) in
     taken s ∙ ap (λ b. cond b false (has_entry_spot old p q)) differs ∙ h
 
-pub others_itself : (at : Place) (under : Path) (a : List EntrySpot) → AreOthersKept at under a a
+pub others_itself : (at : ActionKey) (under : Path) (a : List EntrySpot) → AreOthersKept at under a a
 others_itself at under a p q other h = h
 
-pub others_through : (at : Place) (under : Path) (a b c : List EntrySpot) → AreOthersKept at under a b → AreOthersKept at under b c → AreOthersKept at under a c
+pub others_through : (at : ActionKey) (under : Path) (a b c : List EntrySpot) → AreOthersKept at under a b → AreOthersKept at under b c → AreOthersKept at under a c
 others_through at under a b c h k p q other e = k p q other (h p q other e)
 
 -- an action at another place keeps its spots
-other_kept : (at : Place) (under : Path) (old new : List EntrySpot) (e : Entry) → AreOthersKept at under old new → is_eq (place_cmp at e.0) ≡ false
+other_kept : (at : ActionKey) (under : Path) (old new : List EntrySpot) (e : Entry) → AreOthersKept at under old new → is_eq (place_cmp at e.0) ≡ false
     → HasSpots old e → HasSpots new e
 other_kept at under old new e others out h =
     All-weaker (λ (a : Assignment). has_entry_spot old e.0 a.0 ≡ true) (λ a. has_entry_spot new e.0 a.0 ≡ true)
     (λ a there. others e.0 a.0 (ap (λ b. b && is_at_or_above under a.0) out) there) e.1 h
 
-others_behind : (at : Place) (under : Path) (old new : List EntrySpot) (es : PlacedActions) → AreOthersKept at under old new
+others_behind : (at : ActionKey) (under : Path) (old new : List EntrySpot) (es : PlacedActions) → AreOthersKept at under old new
     → All (λ r. place_cmp at r ≡ Less) (keys_of es) → AllSpotted old es → AllSpotted new es
 others_behind at under old new [] others less h = λ k d lt. absurd (omega (arith, lt))
 others_behind at under old new (e ∷ es) others less h =
@@ -331,7 +331,7 @@ others_behind at under old new (e ∷ es) others less h =
     (other_kept at under old new e others (ap is_eq (All-head (λ r. place_cmp at r ≡ Less) e.0 (keys_of es) less)) (All-head (HasSpots old) e es h))
     (others_behind at under old new es others (All-tail (λ r. place_cmp at r ≡ Less) e.0 (keys_of es) less) (All-tail (HasSpots old) e es h))
 
-pub spotted_taken : (at : Place) (under : Path) (old new : List EntrySpot) (es : PlacedActions) → AreByPlace es → AreOthersKept at under old new
+pub spotted_taken : (at : ActionKey) (under : Path) (old new : List EntrySpot) (es : PlacedActions) → AreByPlace es → AreOthersKept at under old new
     → AllSpotted old es → AllSpotted new (remove_entry (key_is (place_cmp at)) es)
 spotted_taken at under old new [] s others h = λ k d lt. absurd (omega (arith, lt))
 spotted_taken at under old new (e ∷ es) s others h =
@@ -352,7 +352,7 @@ is_not true e = sym e
 is_not false e = refl
 
 -- and one that loses its entries at and below a path, those of its others
-left_kept : (at : Place) (under : Path) (old new : List EntrySpot) (e : Entry) → AreOthersKept at under old new → HasSpots old e
+left_kept : (at : ActionKey) (under : Path) (old new : List EntrySpot) (e : Entry) → AreOthersKept at under old new → HasSpots old e
     → HasSpots new (e.0, apart under e.1)
 left_kept at under old new e others h k d lt =
     let a : Assignment = get_or (apart under e.1) k d in
@@ -360,7 +360,7 @@ left_kept at under old new e others h k d lt =
     others e.0 a.0 (ap (λ b. is_eq (place_cmp at e.0) && b) out ∙ and_no (is_eq (place_cmp at e.0)))
     (All-filter (λ (x : Assignment). not (is_at_or_above under x.0)) (λ (x : Assignment). has_entry_spot old e.0 x.0 ≡ true) e.1 h k d lt)
 
-pub spotted_cut : (at : Place) (under : Path) (old new : List EntrySpot) (es : PlacedActions) → AreByPlace es → AreOthersKept at under old new
+pub spotted_cut : (at : ActionKey) (under : Path) (old new : List EntrySpot) (es : PlacedActions) → AreByPlace es → AreOthersKept at under old new
     → AllSpotted old es → AllSpotted new (cut_at at under es)
 spotted_cut at under old new [] s others h = λ k d lt. absurd (omega (arith, lt))
 spotted_cut at under old new (e ∷ es) s others h =

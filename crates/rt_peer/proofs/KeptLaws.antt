@@ -11,7 +11,7 @@ use Rattle.std.proofs.lemmas.Map.Keys.{sorted_tail}
 use Rattle.rt_tree.specs.Assignments.{Assignment}
 use Rattle.rt_writes.specs.Writes.{IsShallow}
 use Rattle.rt_peer.specs.Calls.{is_empty}
-use Rattle.rt_peer.specs.declared.actions.Place.{Place}
+use Rattle.rt_peer.specs.declared.actions.ActionKey.{ActionKey}
 use Rattle.rt_peer.specs.inside.Counts.{count_of, AreCountedBy}
 use Rattle.rt_peer.specs.inside.Placed.{has_place, is_bare, place_cmp, whose}
 use Rattle.rt_peer.specs.inside.Placed.{AllMarked, AreByPlace, AreKept, PlacedActions}
@@ -20,7 +20,7 @@ use Rattle.rt_peer.proofs.PlacedLaws.{after_equal, counted_less, list_is, less_a
 use Rattle.rt_peer.proofs.PutBehind.{all_put, counted_more}
 
 abbrev Entry : Type 0
-Entry = Place × List Assignment
+Entry = ActionKey × List Assignment
 
 abbrev Came : ℕ → Entry → Type 0
 Came n e = e.0.arrival < n
@@ -28,18 +28,18 @@ Came n e = e.0.arrival < n
 abbrev Shallow : Entry → Type 0
 Shallow e = All IsShallow e.1
 
-abbrev Marked : List Place → Entry → Type 0
+abbrev Marked : List ActionKey → Entry → Type 0
 Marked ps e = is_bare e ≡ true → has_place ps e.0 ≡ true
 
-abbrev pub MarksKept : List Place → List Place → Type 0
-MarksKept old new = (p : Place) → has_place old p ≡ true → has_place new p ≡ true
+abbrev pub MarksKept : List ActionKey → List ActionKey → Type 0
+MarksKept old new = (p : ActionKey) → has_place old p ≡ true → has_place new p ≡ true
 
-abbrev pub IsPlaceTaken : Place → List Place → List Place → Type 0
-IsPlaceTaken k old new = (q : Place) → has_place new q ≡ cond (is_eq (place_cmp k q)) false (has_place old q)
+abbrev pub IsPlaceTaken : ActionKey → List ActionKey → List ActionKey → Type 0
+IsPlaceTaken k old new = (q : ActionKey) → has_place new q ≡ cond (is_eq (place_cmp k q)) false (has_place old q)
 
 -- ---- marks more, the rest as it was
 
-pub kept_still : (es : PlacedActions) (empty marks : List Place) (counts more : List (ℕ × ℕ)) (arrived later : ℕ)
+pub kept_still : (es : PlacedActions) (empty marks : List ActionKey) (counts more : List (ℕ × ℕ)) (arrived later : ℕ)
     → AreKept es empty counts arrived → MarksKept empty marks → ((n : ℕ) → count_of more n ≡ count_of counts n) → arrived ≤ later
     → AreKept es marks more later
 kept_still es empty marks counts more arrived later k kept same le = record {
@@ -52,7 +52,7 @@ kept_still es empty marks counts more arrived later k kept same le = record {
 
 -- ---- one more
 
-pub kept_put : (p : Place) (v : List Assignment) (es : PlacedActions) (empty marks : List Place) (counts more : List (ℕ × ℕ)) (arrived later : ℕ)
+pub kept_put : (p : ActionKey) (v : List Assignment) (es : PlacedActions) (empty marks : List ActionKey) (counts more : List (ℕ × ℕ)) (arrived later : ℕ)
     → AreKept es empty counts arrived → p.arrival ≡ arrived → later ≡ arrived + 1 → All IsShallow v
     → AreByPlace (insert_entry place_cmp es p v) → MarksKept empty marks → (is_empty v ≡ true → has_place marks p ≡ true)
     → ((n : ℕ) → count_of more n ≡ count_of counts n + one_if p.connection n)
@@ -69,7 +69,7 @@ kept_put p v es empty marks counts more arrived later k at next shallow order ke
 
 -- ---- one less
 
-all_removed : (P : Entry → Type 0) (p : Place) (es : PlacedActions) → All P es → All P (remove_entry (key_is (place_cmp p)) es)
+all_removed : (P : Entry → Type 0) (p : ActionKey) (es : PlacedActions) → All P es → All P (remove_entry (key_is (place_cmp p)) es)
 all_removed P p [] h = h
 all_removed P p (e ∷ es) h =
     elim (is_eq (place_cmp p e.0)) as (λ b. All P (cond b es (e ∷ remove_entry (key_is (place_cmp p)) es))) [
@@ -77,10 +77,10 @@ all_removed P p (e ∷ es) h =
       | false ↦ All-cons P e (remove_entry (key_is (place_cmp p)) es) (All-head P e es h) (all_removed P p es (All-tail P e es h))
     ]
 
-still_there : (p q : Place) (old new : List Place) → IsPlaceTaken p old new → is_eq (place_cmp p q) ≡ false → has_place old q ≡ true → has_place new q ≡ true
+still_there : (p q : ActionKey) (old new : List ActionKey) → IsPlaceTaken p old new → is_eq (place_cmp p q) ≡ false → has_place old q ≡ true → has_place new q ≡ true
 still_there p q old new taken other h = taken q ∙ ap (λ b. cond b false (has_place old q)) other ∙ h
 
-marked_taken : (p : Place) (old new : List Place) (es : PlacedActions) → AreByPlace es → IsPlaceTaken p old new → AllMarked old es
+marked_taken : (p : ActionKey) (old new : List ActionKey) (es : PlacedActions) → AreByPlace es → IsPlaceTaken p old new → AllMarked old es
     → AllMarked new (remove_entry (key_is (place_cmp p)) es)
 marked_taken p old new [] s taken h = λ k d lt. absurd (omega (arith, lt))
 marked_taken p old new (e ∷ es) s taken h =
@@ -99,7 +99,7 @@ marked_taken p old new (e ∷ es) s taken h =
         (λ bare. still_there p x.0 old new taken (ap is_eq (All-head (λ r. place_cmp p r ≡ Less) x.0 (keys_of xs) less)) (All-head (Marked old) x xs k bare))
         (behind xs (All-tail (λ r. place_cmp p r ≡ Less) x.0 (keys_of xs) less) (All-tail (Marked old) x xs k))
 
-pub kept_taken : (p : Place) (v : List Assignment) (es : PlacedActions) (empty marks : List Place) (counts less : List (ℕ × ℕ)) (arrived : ℕ)
+pub kept_taken : (p : ActionKey) (v : List Assignment) (es : PlacedActions) (empty marks : List ActionKey) (counts less : List (ℕ × ℕ)) (arrived : ℕ)
     → AreKept es empty counts arrived → Some v ≡ lookup (key_is (place_cmp p)) es → AreByPlace (remove_entry (key_is (place_cmp p)) es)
     → IsPlaceTaken p empty marks → ((n : ℕ) → count_of less n ≡ count_of counts n - one_if p.connection n)
     → AreKept (remove_entry (key_is (place_cmp p)) es) marks less arrived
@@ -112,7 +112,7 @@ kept_taken p v es empty marks counts less arrived k there order taken one = reco
 }
 
 -- what is found may be put
-pub shallow_at : (p : Place) (v : List Assignment) (es : PlacedActions) → All Shallow es → Some v ≡ lookup (key_is (place_cmp p)) es → All IsShallow v
+pub shallow_at : (p : ActionKey) (v : List Assignment) (es : PlacedActions) → All Shallow es → Some v ≡ lookup (key_is (place_cmp p)) es → All IsShallow v
 shallow_at p v [] h there = absurd (true≢false (ap is_some there))
 shallow_at p v (e ∷ es) h there =
     elim (is_eq (place_cmp p e.0)) as (λ b. Some v ≡ cond b (Some e.1) (lookup (key_is (place_cmp p)) es) → All IsShallow v) [
@@ -125,7 +125,7 @@ shallow_at p v (e ∷ es) h there =
 all_filter : (P : Entry → Type 0) (t : Entry → Bool) (es : PlacedActions) → All P es → All P (filter t es)
 all_filter P t es h = All-filter t P es h
 
-pub kept_dropped : (es left : PlacedActions) (empty marks : List Place) (counts less : List (ℕ × ℕ)) (arrived : ℕ)
+pub kept_dropped : (es left : PlacedActions) (empty marks : List ActionKey) (counts less : List (ℕ × ℕ)) (arrived : ℕ)
     → AreKept es empty counts arrived → AreByPlace left → left ≡ filter (λ e. not (is_bare e)) es → AreCountedBy less left whose
     → AreKept left marks less arrived
 kept_dropped es left empty marks counts less arrived k order is counted = record {
@@ -145,7 +145,7 @@ kept_dropped es left empty marks counts less arrived k order is counted = record
 
 -- ---- one that loses entries
 
-pub kept_left : (p : Place) (v : List Assignment) (es : PlacedActions) (empty : List Place) (counts : List (ℕ × ℕ)) (arrived : ℕ)
+pub kept_left : (p : ActionKey) (v : List Assignment) (es : PlacedActions) (empty : List ActionKey) (counts : List (ℕ × ℕ)) (arrived : ℕ)
     → AreKept es empty counts arrived → All IsShallow v → is_empty v ≡ false → is_some (lookup (key_is (place_cmp p)) es) ≡ true
     → AreByPlace (insert_entry place_cmp es p v) → AreKept (insert_entry place_cmp es p v) empty counts arrived
 kept_left p v es empty counts arrived k shallow some there order = record {

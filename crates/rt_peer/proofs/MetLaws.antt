@@ -22,7 +22,7 @@ use Rattle.rt_peer.specs.Peers.{Listen}
 use Rattle.rt_peer.specs.Pushes.{is_changed, parts_below, parts_message, push_of, pushes, seen, written}
 use Rattle.rt_peer.specs.declared.pushes.Sent.{Sent}
 use Rattle.rt_peer.specs.declared.listens.Owner.{Owner}
-use Rattle.rt_peer.specs.declared.listens.Spot.{Spot}
+use Rattle.rt_peer.specs.declared.listens.ListenKey.{ListenKey}
 use Rattle.rt_peer.specs.declared.write.Write.{Write}
 use Rattle.rt_peer.specs.inside.Met.{at_owner, entry_at, numbers_of, over, picked, AreHanded, AreMet, AreNoted, AreSameOver, IsHanded, IsMadeAt, Met, MeetsSo}
 use Rattle.rt_peer.specs.inside.Spots.{has_owner, is_concerned, listen_of, overlaps, owner_cmp, owner_of, owners_total, spot_of}
@@ -184,14 +184,14 @@ each_more k rest left n old new is rise h o =
 
 -- ---- entry by entry
 
-pub met_none : (es : List Assignment) (met : Met) (spots : List Spot) → met ≡ [] → AreMet es [] met spots
+pub met_none : (es : List Assignment) (met : Met) (spots : List ListenKey) → met ≡ [] → AreMet es [] met spots
 met_none es met spots none = subst (λ m. AreMet es [] m spots) (sym none) (λ k d lt. refl)
 
 module _ (es : List Assignment) (n : ℕ) (a : Assignment) (inside : n < length es) (is : a ≡ get_or es n a) where
   at_number : slice_get es n ≡ Some a
   at_number = slice_get-get_or es n a inside ∙ ap Some (sym is)
 
-  one_more : (s : Spot) (b : Bool) → (overlaps a.0 s ≡ true → b ≡ true)
+  one_more : (s : ListenKey) (b : Bool) → (overlaps a.0 s ≡ true → b ≡ true)
       → over s.path (picked es (one_if b n)) ≡ over s.path (a ∷ [])
   one_more s true h = ap (λ (o : Option Assignment). over s.path (option_map_or (λ (x : Assignment). x ∷ []) o [] ++ [])) at_number
   one_more s false h =
@@ -200,7 +200,7 @@ module _ (es : List Assignment) (n : ℕ) (a : Assignment) (inside : n < length 
         | false ↦ λ e. refl
       ] refl
 
-  grown : (s : Spot) (old new : Met) → MeetsSo a.0 n old new s
+  grown : (s : ListenKey) (old new : Met) → MeetsSo a.0 n old new s
       → AreSameOver s.path (picked es (numbers_of old s.owner)) (take n es)
       → AreSameOver s.path (picked es (numbers_of new s.owner)) (take n es ++ a ∷ [])
   grown s old new m h =
@@ -210,7 +210,7 @@ module _ (es : List Assignment) (n : ℕ) (a : Assignment) (inside : n < length 
       ∙ (λ i. h i ++ one_more s m.0 m.1.0 i)
       ∙ sym (filter-append (λ (x : Assignment). do_overlap x.0 s.path) (take n es) (a ∷ []))
 
-  pub met_more : (spots : List Spot) (old new : Met) → All (MeetsSo a.0 n old new) spots
+  pub met_more : (spots : List ListenKey) (old new : Met) → All (MeetsSo a.0 n old new) spots
       → AreMet es (take n es) old spots → AreMet es (take (suc n) es) new spots
   met_more spots old new more h k d lt =
       let all : take (suc n) es ≡ take n es ++ a ∷ [] = take-suc es n a inside ∙ ap (λ x. take n es ++ x ∷ []) (sym is) in

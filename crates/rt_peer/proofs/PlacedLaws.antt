@@ -16,14 +16,14 @@ use Rattle.std.proofs.lemmas.Map.Keys.{sorted_tail}
 use Rattle.std.proofs.lemmas.Map.Views.{All-after_first}
 use Rattle.rt_tree.specs.Assignments.{Assignment}
 use Rattle.rt_peer.specs.Calls.{is_empty}
-use Rattle.rt_peer.specs.declared.actions.Place.{Place}
+use Rattle.rt_peer.specs.declared.actions.ActionKey.{ActionKey}
 use Rattle.rt_peer.specs.inside.Counts.{count_of, AreCountedBy}
 use Rattle.rt_peer.specs.inside.Placed.{has_place, is_bare, is_of, place_cmp, places_total, whose, without_bare}
 use Rattle.rt_peer.specs.inside.Placed.{AllMarked, AreByPlace, PlacedActions}
 use Rattle.rt_peer.proofs.CountLaws.{one_if}
 
 abbrev Entry : Type 0
-Entry = Place × List Assignment
+Entry = ActionKey × List Assignment
 
 abbrev list_or : Option (List Assignment) → List Assignment → List Assignment
 list_or None d = d
@@ -39,7 +39,7 @@ both_equal Less b e = absurd (true≢false (sym e))
 both_equal Equal b e = (refl, (Equal-is b).0 e)
 both_equal Greater b e = absurd (true≢false (sym e))
 
-pub place_exact : (p q : Place) → is_eq (place_cmp p q) ≡ true → p ≡ q
+pub place_exact : (p q : ActionKey) → is_eq (place_cmp p q) ≡ true → p ≡ q
 place_exact p q e =
     let one = both_equal (nat_cmp p.connection q.connection) (ordering_then (nat_cmp p.id q.id) (nat_cmp p.arrival q.arrival)) e in
     let two = both_equal (nat_cmp p.id q.id) (nat_cmp p.arrival q.arrival) (ap is_eq one.1) in
@@ -49,28 +49,28 @@ place_exact p q e =
     λ i. record { connection = first i; id = second i; arrival = third i }
 
 -- what is less than the first is less than all
-pub less_all : (p q : Place) (ps : List Place) → place_cmp p q ≡ Less → IsStrictlySortedBy place_cmp (q ∷ ps)
+pub less_all : (p q : ActionKey) (ps : List ActionKey) → place_cmp p q ≡ Less → IsStrictlySortedBy place_cmp (q ∷ ps)
     → All (λ r. place_cmp p r ≡ Less) (q ∷ ps)
 less_all p q ps e s =
     All-cons (λ r. place_cmp p r ≡ Less) q ps e
     (λ k d lt. places_total.trans p q (get_or ps k d) e (All-after_first place_cmp q ps s k d lt))
 
 -- a place that is less than all keys is none of them
-pub none_at : (p : Place) (es : PlacedActions) → All (λ r. place_cmp p r ≡ Less) (keys_of es) → lookup (key_is (place_cmp p)) es ≡ None
+pub none_at : (p : ActionKey) (es : PlacedActions) → All (λ r. place_cmp p r ≡ Less) (keys_of es) → lookup (key_is (place_cmp p)) es ≡ None
 none_at p [] h = refl
 none_at p (e ∷ es) h =
     ap (λ o. cond (is_eq o) (Some e.1) (lookup (key_is (place_cmp p)) es)) (All-head (λ r. place_cmp p r ≡ Less) e.0 (keys_of es) h)
     ∙ none_at p es (All-tail (λ r. place_cmp p r ≡ Less) e.0 (keys_of es) h)
 
 -- behind an equal place no other is
-pub after_equal : (p q : Place) (ps : List Place) → is_eq (place_cmp p q) ≡ true → IsStrictlySortedBy place_cmp (q ∷ ps)
+pub after_equal : (p q : ActionKey) (ps : List ActionKey) → is_eq (place_cmp p q) ≡ true → IsStrictlySortedBy place_cmp (q ∷ ps)
     → All (λ r. place_cmp p r ≡ Less) ps
 after_equal p q ps e s k d lt =
     places_total.congr p q (get_or ps k d) ((Equal-is (place_cmp p q)).0 e) ∙ All-after_first place_cmp q ps s k d lt
 
 -- ---- one without entries
 
-pub bare_taken : (p : Place) (es : PlacedActions) → AreByPlace es
+pub bare_taken : (p : ActionKey) (es : PlacedActions) → AreByPlace es
     → option_map_or is_empty (lookup (key_is (place_cmp p)) es) false ≡ true
     → remove_entry (key_is (place_cmp p)) es ≡ without_bare p es
 bare_taken p [] s h = refl
@@ -81,7 +81,7 @@ bare_taken p (e ∷ es) s h =
       | false ↦ λ g. ap (λ xs. e ∷ xs) (bare_taken p es (sorted_tail place_cmp e.0 (keys_of es) s) g)
     ] h
 
-pub bare_none : (p : Place) (es : PlacedActions) → AreByPlace es
+pub bare_none : (p : ActionKey) (es : PlacedActions) → AreByPlace es
     → option_map_or is_empty (lookup (key_is (place_cmp p)) es) false ≡ false → es ≡ without_bare p es
 bare_none p [] s h = refl
 bare_none p (e ∷ es) s h =
@@ -96,7 +96,7 @@ bare_none p (e ∷ es) s h =
     ] refl h
 
 -- the others that have entries stay
-pub bare_left : (p : Place) (es : PlacedActions)
+pub bare_left : (p : ActionKey) (es : PlacedActions)
     → filter (λ e. not (is_bare e)) (without_bare p es) ≡ filter (λ e. not (is_bare e)) es
 bare_left p [] = refl
 bare_left p (e ∷ es) =
@@ -115,17 +115,17 @@ pub or_rest : (b c : Bool) → b ≡ false → (b || c) ≡ true → c ≡ true
 or_rest true c e f = absurd (true≢false e)
 or_rest false c e f = f
 
-flipped : (p q : Place) → is_eq (place_cmp q p) ≡ true → is_eq (place_cmp p q) ≡ true
+flipped : (p q : ActionKey) → is_eq (place_cmp q p) ≡ true → is_eq (place_cmp p q) ≡ true
 flipped p q e = ap (λ r. is_eq (place_cmp p r)) (place_exact q p e) ∙ ap is_eq (tied_itself places_total p)
 
-pub other_way : (p q : Place) → is_eq (place_cmp p q) ≡ false → is_eq (place_cmp q p) ≡ false
+pub other_way : (p q : ActionKey) → is_eq (place_cmp p q) ≡ false → is_eq (place_cmp q p) ≡ false
 other_way p q e =
     elim (is_eq (place_cmp q p)) as (λ b. is_eq (place_cmp q p) ≡ b → b ≡ false) [
       | true ↦ λ f. absurd (true≢false (sym (flipped p q f) ∙ e))
       | false ↦ λ f. refl
     ] refl
 
-pub marked_left : (p : Place) (ps : List Place) (es : PlacedActions) → AreByPlace es → AllMarked (p ∷ ps) es → AllMarked ps (without_bare p es)
+pub marked_left : (p : ActionKey) (ps : List ActionKey) (es : PlacedActions) → AreByPlace es → AllMarked (p ∷ ps) es → AllMarked ps (without_bare p es)
 marked_left p ps [] s h = λ k d lt. absurd (omega (arith, lt))
 marked_left p ps (e ∷ es) s h =
     elim (is_eq (place_cmp p e.0)) as (λ b. is_eq (place_cmp p e.0) ≡ b → AllMarked ps (if b && is_bare e then es else e ∷ without_bare p es)) [
@@ -144,7 +144,7 @@ marked_left p ps (e ∷ es) s h =
           (marked_left p ps es (sorted_tail place_cmp e.0 (keys_of es) s) (All-tail (λ e. is_bare e ≡ true → has_place (p ∷ ps) e.0 ≡ true) e es h))
     ] refl
   where
-    marked_behind : (p : Place) (ps : List Place) (es : PlacedActions) → All (λ r. place_cmp p r ≡ Less) (keys_of es)
+    marked_behind : (p : ActionKey) (ps : List ActionKey) (es : PlacedActions) → All (λ r. place_cmp p r ≡ Less) (keys_of es)
         → AllMarked (p ∷ ps) es → AllMarked ps es
     marked_behind p ps [] less h = λ k d lt. absurd (omega (arith, lt))
     marked_behind p ps (e ∷ es) less h =
@@ -164,20 +164,20 @@ all_kept (e ∷ es) h =
       | false ↦ λ g. ap (λ xs. e ∷ xs) (all_kept es (All-tail (λ e. is_bare e ≡ true → has_place [] e.0 ≡ true) e es h))
     ] refl
 
-pub all_unmarked : (ps : List Place) (es : PlacedActions) → length ps ≡ 0 → AllMarked ps es → es ≡ filter (λ e. not (is_bare e)) es
+pub all_unmarked : (ps : List ActionKey) (es : PlacedActions) → length ps ≡ 0 → AllMarked ps es → es ≡ filter (λ e. not (is_bare e)) es
 all_unmarked [] es none h = all_kept es h
 all_unmarked (p ∷ ps) es none h = absurd (omega (arith, none))
 
 -- ---- how many there are
 
-pub removed_count : (p : Place) (v : List Assignment) (n : ℕ) (es : PlacedActions) → Some v ≡ lookup (key_is (place_cmp p)) es
+pub removed_count : (p : ActionKey) (v : List Assignment) (n : ℕ) (es : PlacedActions) → Some v ≡ lookup (key_is (place_cmp p)) es
     → length (filter (is_of n) es) ≡ length (filter (is_of n) (remove_entry (key_is (place_cmp p)) es)) + one_if p.connection n
 removed_count p v n [] h = absurd (true≢false (ap is_some h))
 removed_count p v n (e ∷ es) h =
     elim (is_eq (place_cmp p e.0)) as (λ b. is_eq (place_cmp p e.0) ≡ b → Some v ≡ cond b (Some e.1) (lookup (key_is (place_cmp p)) es)
     → length (filter (is_of n) (e ∷ es)) ≡ length (filter (is_of n) (cond b es (e ∷ remove_entry (key_is (place_cmp p)) es))) + one_if p.connection n) [
       | true ↦ λ f g. one_more (e.0.connection == n) e (filter (is_of n) es)
-          ∙ ap (λ m. length (filter (is_of n) es) + one_if m n) (sym (ap (λ (q : Place). q.connection) (place_exact p e.0 f)))
+          ∙ ap (λ m. length (filter (is_of n) es) + one_if m n) (sym (ap (λ (q : ActionKey). q.connection) (place_exact p e.0 f)))
       | false ↦ λ f g. with_one (e.0.connection == n) e (filter (is_of n) es) (filter (is_of n) (remove_entry (key_is (place_cmp p)) es)) (one_if p.connection n)
           (removed_count p v n es g)
     ] refl h
@@ -191,7 +191,7 @@ removed_count p v n (e ∷ es) h =
     with_one true e xs ys m h = omega (arith, h)
     with_one false e xs ys m h = h
 
-pub counted_less : (p : Place) (v : List Assignment) (old new : List (ℕ × ℕ)) (es : PlacedActions) → AreCountedBy old es whose
+pub counted_less : (p : ActionKey) (v : List Assignment) (old new : List (ℕ × ℕ)) (es : PlacedActions) → AreCountedBy old es whose
     → Some v ≡ lookup (key_is (place_cmp p)) es → ((n : ℕ) → count_of new n ≡ count_of old n - one_if p.connection n)
     → AreCountedBy new (remove_entry (key_is (place_cmp p)) es) whose
 counted_less p v old new es counted there less n =
@@ -203,21 +203,21 @@ counted_less p v old new es counted there less n =
 
 -- ---- marks
 
-abbrev pub IsPlaceAdded : Place → List Place → List Place → Type 0
-IsPlaceAdded k old new = (q : Place) → has_place new q ≡ cond (is_eq (place_cmp k q)) true (has_place old q)
+abbrev pub IsPlaceAdded : ActionKey → List ActionKey → List ActionKey → Type 0
+IsPlaceAdded k old new = (q : ActionKey) → has_place new q ≡ cond (is_eq (place_cmp k q)) true (has_place old q)
 
-pub place_kept : (k : Place) (old new : List Place) → IsPlaceAdded k old new → (p : Place) → has_place old p ≡ true → has_place new p ≡ true
+pub place_kept : (k : ActionKey) (old new : List ActionKey) → IsPlaceAdded k old new → (p : ActionKey) → has_place old p ≡ true → has_place new p ≡ true
 place_kept k old new e p h =
     e p ∙ elim (is_eq (place_cmp k p)) as (λ b. cond b true (has_place old p) ≡ true) [
       | true ↦ refl
       | false ↦ h
     ]
 
-pub place_added : (k : Place) (old new : List Place) → IsPlaceAdded k old new → has_place new k ≡ true
+pub place_added : (k : ActionKey) (old new : List ActionKey) → IsPlaceAdded k old new → has_place new k ≡ true
 place_added k old new e = e k ∙ ap (λ o. cond (is_eq o) true (has_place old k)) (tied_itself places_total k)
 
 -- one that has no entries, taken out and counted
-pub counted_bare : (p : Place) (old new : List (ℕ × ℕ)) (es : PlacedActions) → AreByPlace es → AreCountedBy old es whose
+pub counted_bare : (p : ActionKey) (old new : List (ℕ × ℕ)) (es : PlacedActions) → AreByPlace es → AreCountedBy old es whose
     → option_map_or is_empty (lookup (key_is (place_cmp p)) es) false ≡ true
     → ((n : ℕ) → count_of new n ≡ count_of old n - one_if p.connection n) → AreCountedBy new (without_bare p es) whose
 counted_bare p old new es s counted bare less =

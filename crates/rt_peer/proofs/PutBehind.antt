@@ -19,7 +19,7 @@ use Rattle.std.proofs.lemmas.Map.Views.{All-after_first}
 use Rattle.rt_tree.specs.Assignments.{Assignment}
 use Rattle.rt_peer.specs.Peers.{Deferred, in_place, runs_before}
 use Rattle.rt_peer.specs.Turns.{without_first}
-use Rattle.rt_peer.specs.declared.actions.Place.{Place}
+use Rattle.rt_peer.specs.declared.actions.ActionKey.{ActionKey}
 use Rattle.rt_peer.specs.inside.Counts.{count_of, AreCountedBy}
 use Rattle.rt_peer.specs.inside.Placed.{deferred_of, deferreds_of, first_own, is_of, place_cmp, places_total, whose}
 use Rattle.rt_peer.specs.inside.Placed.{AreByPlace, PlacedActions}
@@ -28,7 +28,7 @@ use Rattle.rt_peer.proofs.PlacedLaws.{less_all, list_is, place_exact}
 use Rattle.rt_peer.proofs.SpotLaws.{le_then, zero_first}
 
 abbrev Entry : Type 0
-Entry = Place × List Assignment
+Entry = ActionKey × List Assignment
 
 abbrev Came : ℕ → Entry → Type 0
 Came n e = e.0.arrival < n
@@ -42,7 +42,7 @@ not_same : (m n : ℕ) → m < n → (n == m) ≡ false
 not_same m n h = grind (arith, nat_tests)
 
 -- where it is less than one that came before, it is so by connection and number
-runs_less : (p q : Place) (v w : List Assignment) → q.arrival < p.arrival → place_cmp p q ≡ Less
+runs_less : (p q : ActionKey) (v w : List Assignment) → q.arrival < p.arrival → place_cmp p q ≡ Less
     → runs_before (deferred_of (p, v)) (deferred_of (q, w)) ≡ true
 runs_less p q v w later e =
     by_parts (nat_lt p.connection q.connection) (p.connection == q.connection) (nat_lt p.id q.id) (p.id == q.id)
@@ -59,7 +59,7 @@ runs_less p q v w later e =
     by_parts false true false false f g i j e = absurd (true≢false (sym (ap is_lt e)))
     by_parts false false c d f g i j e = absurd (true≢false (sym (ap is_lt e)))
 
-runs_greater : (p q : Place) (v w : List Assignment) → place_cmp p q ≡ Greater
+runs_greater : (p q : ActionKey) (v w : List Assignment) → place_cmp p q ≡ Greater
     → runs_before (deferred_of (p, v)) (deferred_of (q, w)) ≡ false
 runs_greater p q v w e =
     by_parts (nat_lt p.connection q.connection) (p.connection == q.connection) (nat_lt p.id q.id) (p.id == q.id) (nat_cmp p.arrival q.arrival) e
@@ -73,9 +73,9 @@ runs_greater p q v w e =
     by_parts false false c d o e = refl
 
 -- one that came later is at no place of before
-other_place : (p q : Place) → q.arrival < p.arrival → place_cmp p q ≡ Equal → ⊥
+other_place : (p q : ActionKey) → q.arrival < p.arrival → place_cmp p q ≡ Equal → ⊥
 other_place p q later e =
-    let same : p.arrival ≡ q.arrival = ap (λ (r : Place). r.arrival) (place_exact p q (ap is_eq e)) in
+    let same : p.arrival ≡ q.arrival = ap (λ (r : ActionKey). r.arrival) (place_exact p q (ap is_eq e)) in
     omega (arith, later, same)
 
 -- ---- put behind those of its number
@@ -96,7 +96,7 @@ first_in : (x : Deferred) (xs : List Deferred) → All (λ m. runs_before x m �
 first_in x xs h =
     (λ i. filter_none (λ y. not (runs_before x y)) xs (λ k d lt j. not (h k d lt j)) i ++ x ∷ filter_all (runs_before x) xs h i)
 
-all_behind : (p : Place) (v : List Assignment) (es : PlacedActions) → All (Came p.arrival) es → All (λ r. place_cmp p r ≡ Less) (keys_of es)
+all_behind : (p : ActionKey) (v : List Assignment) (es : PlacedActions) → All (Came p.arrival) es → All (λ r. place_cmp p r ≡ Less) (keys_of es)
     → All (λ m. runs_before (deferred_of (p, v)) m ≡ true) (deferreds_of es)
 all_behind p v [] came h = λ k d lt. absurd (omega (arith, lt))
 all_behind p v (e ∷ es) came h =
@@ -104,7 +104,7 @@ all_behind p v (e ∷ es) came h =
     (runs_less p e.0 v e.1 (All-head (Came p.arrival) e es came) (All-head (λ r. place_cmp p r ≡ Less) e.0 (keys_of es) h))
     (all_behind p v es (All-tail (Came p.arrival) e es came) (All-tail (λ r. place_cmp p r ≡ Less) e.0 (keys_of es) h))
 
-pub put_behind : (p : Place) (v : List Assignment) (es : PlacedActions) → AreByPlace es → All (Came p.arrival) es
+pub put_behind : (p : ActionKey) (v : List Assignment) (es : PlacedActions) → AreByPlace es → All (Came p.arrival) es
     → deferreds_of (insert_entry place_cmp es p v) ≡ in_place runs_before (deferred_of (p, v)) (deferreds_of es)
 put_behind p v [] s came = refl
 put_behind p v (e ∷ es) s came =
@@ -120,7 +120,7 @@ put_behind p v (e ∷ es) s came =
     ] refl
 
 -- what holds of all, and of the one that is put
-pub all_put : (P : Entry → Type 0) (p : Place) (v : List Assignment) (es : PlacedActions) → All (Came p.arrival) es → All P es → P (p, v)
+pub all_put : (P : Entry → Type 0) (p : ActionKey) (v : List Assignment) (es : PlacedActions) → All (Came p.arrival) es → All P es → P (p, v)
     → All P (insert_entry place_cmp es p v)
 all_put P p v [] came h here = All-cons P (p, v) [] here h
 all_put P p v (e ∷ es) came h here =
@@ -135,7 +135,7 @@ one_more : (b : Bool) (e : Entry) (xs : PlacedActions) → length (cond b (e ∷
 one_more true e xs = omega arith
 one_more false e xs = omega arith
 
-put_count : (p : Place) (v : List Assignment) (n : ℕ) (es : PlacedActions) → All (Came p.arrival) es
+put_count : (p : ActionKey) (v : List Assignment) (n : ℕ) (es : PlacedActions) → All (Came p.arrival) es
     → length (filter (is_of n) (insert_entry place_cmp es p v)) ≡ length (filter (is_of n) es) + one_if p.connection n
 put_count p v n [] came = one_more (p.connection == n) (p, v) []
 put_count p v n (e ∷ es) came =
@@ -153,7 +153,7 @@ put_count p v n (e ∷ es) came =
     with_one true e xs ys m h = omega (arith, h)
     with_one false e xs ys m h = h
 
-pub counted_more : (p : Place) (v : List Assignment) (old new : List (ℕ × ℕ)) (es : PlacedActions) → All (Came p.arrival) es
+pub counted_more : (p : ActionKey) (v : List Assignment) (old new : List (ℕ × ℕ)) (es : PlacedActions) → All (Came p.arrival) es
     → AreCountedBy old es whose → ((n : ℕ) → count_of new n ≡ count_of old n + one_if p.connection n)
     → AreCountedBy new (insert_entry place_cmp es p v) whose
 counted_more p v old new es came counted more n =
@@ -226,7 +226,7 @@ none_of n (x ∷ xs) h =
     ap (λ b. cond b (x ∷ filter (is_of n) xs) (filter (is_of n) xs)) (All-head (λ y. is_of n y ≡ false) x xs h)
     ∙ none_of n xs (All-tail (λ y. is_of n y ≡ false) x xs h)
 
-pub keys_filter : (q : Place → Bool) (es : PlacedActions) → keys_of (filter (λ e. q e.0) es) ≡ filter q (keys_of es)
+pub keys_filter : (q : ActionKey → Bool) (es : PlacedActions) → keys_of (filter (λ e. q e.0) es) ≡ filter q (keys_of es)
 keys_filter q [] = refl
 keys_filter q (e ∷ es) =
     elim (q e.0) as (λ b. keys_of (cond b (e ∷ filter (λ e. q e.0) es) (filter (λ e. q e.0) es)) ≡ cond b (e.0 ∷ filter q (keys_of es)) (filter q (keys_of es))) [
@@ -237,7 +237,7 @@ keys_filter q (e ∷ es) =
 pub first_other : (n : ℕ) (es left rest : PlacedActions) (e : Entry) → AreByPlace es → left ≡ filter (from_first n) es → left ≡ e ∷ rest
     → is_of n e ≡ false → None ≡ first_own n es
 first_other n es left rest e s is begins other =
-    let q : Place → Bool = λ p. is_le (place_cmp (record { connection = n; id = 0; arrival = 0 }) p) && not false in
+    let q : ActionKey → Bool = λ p. is_le (place_cmp (record { connection = n; id = 0; arrival = 0 }) p) && not false in
     let all : filter (from_first n) es ≡ e ∷ rest = sym is ∙ begins in
     let passes : from_first n e ≡ true = All-head (λ x. from_first n x ≡ true) e rest
     (subst (All (λ x. from_first n x ≡ true)) all (λ k d lt. filter_passes (from_first n) es k d lt)) in
@@ -261,26 +261,26 @@ first_other n es left rest e s is begins other =
         (others e fs from (All-tail (λ p. place_cmp e.0 p ≡ Less) f.0 (keys_of fs) h))
 
 -- as a search finds it
-abbrev pub IsFrom : Place → PlacedActions → PlacedActions → Type 0
+abbrev pub IsFrom : ActionKey → PlacedActions → PlacedActions → Type 0
 IsFrom from es left = left ≡ filter (λ (e : Entry). is_le (place_cmp from e.0) && not false) es
 
-from_is : (n : ℕ) (es left : PlacedActions) (from : Place) → from ≡ record { connection = n; id = 0; arrival = 0 } → IsFrom from es left
+from_is : (n : ℕ) (es left : PlacedActions) (from : ActionKey) → from ≡ record { connection = n; id = 0; arrival = 0 } → IsFrom from es left
     → left ≡ filter (from_first n) es
-from_is n es left from at is = is ∙ ap (λ (p : Place). filter (λ (e : Entry). is_le (place_cmp p e.0) && not false) es) at
+from_is n es left from at is = is ∙ ap (λ (p : ActionKey). filter (λ (e : Entry). is_le (place_cmp p e.0) && not false) es) at
 
-pub first_seen : (n : ℕ) (es now left rest : PlacedActions) (e : Entry) (from : Place) → es ≡ now
+pub first_seen : (n : ℕ) (es now left rest : PlacedActions) (e : Entry) (from : ActionKey) → es ≡ now
     → from ≡ record { connection = n; id = 0; arrival = 0 } → IsFrom from es left → left ≡ e ∷ rest → is_of n e ≡ true
     → Some e.0 ≡ first_own n now
 first_seen n es now left rest e from view at is begins own =
     first_is n es left rest e (from_is n es left from at is) begins own ∙ ap (first_own n) view
 
-pub other_seen : (n : ℕ) (es now left rest : PlacedActions) (e : Entry) (from : Place) → AreByPlace es → es ≡ now
+pub other_seen : (n : ℕ) (es now left rest : PlacedActions) (e : Entry) (from : ActionKey) → AreByPlace es → es ≡ now
     → from ≡ record { connection = n; id = 0; arrival = 0 } → IsFrom from es left → left ≡ e ∷ rest → is_of n e ≡ false
     → None ≡ first_own n now
 other_seen n es now left rest e from s view at is begins other =
     first_other n es left rest e s (from_is n es left from at is) begins other ∙ ap (first_own n) view
 
-pub none_seen : (n : ℕ) (es now left : PlacedActions) (from : Place) → es ≡ now
+pub none_seen : (n : ℕ) (es now left : PlacedActions) (from : ActionKey) → es ≡ now
     → from ≡ record { connection = n; id = 0; arrival = 0 } → IsFrom from es left → left ≡ [] → None ≡ first_own n now
 none_seen n es now left from view at is none = first_none n es left (from_is n es left from at is) none ∙ ap (first_own n) view
 
@@ -298,11 +298,11 @@ own_mapped n (e ∷ es) =
       | false ↦ own_mapped n es
     ]
 
-abbrev or_else : Option Place → Place → Place
+abbrev or_else : Option ActionKey → ActionKey → ActionKey
 or_else None d = d
 or_else (Some x) d = x
 
-some_is : (p q : Place) → Some p ≡ Some q → p ≡ q
+some_is : (p q : ActionKey) → Some p ≡ Some q → p ≡ q
 some_is p q g = ap (λ r. or_else r p) g
 
 pub own_count : (n : ℕ) (es : PlacedActions) (now : List Deferred) → deferreds_of es ≡ now
@@ -318,7 +318,7 @@ first_absent n es h = own_mapped n es ∙ ap deferreds_of (by_list (filter (is_o
     by_list (x ∷ xs) g = absurd (true≢false (sym (ap is_some g)))
 
 -- the first of the connection's actions is found at its place
-pub first_found : (n : ℕ) (p : Place) (es : PlacedActions) → Some p ≡ first_own n es
+pub first_found : (n : ℕ) (p : ActionKey) (es : PlacedActions) → Some p ≡ first_own n es
     → is_some (lookup (key_is (place_cmp p)) es) ≡ true
 first_found n p [] h = absurd (true≢false (ap is_some h))
 first_found n p (e ∷ es) h =
@@ -334,7 +334,7 @@ first_found n p (e ∷ es) h =
     ] h
 
 -- without the first, all are without it, and the connection's begin with it
-pub first_taken : (n : ℕ) (p : Place) (v : List Assignment) (es : PlacedActions) → Some p ≡ first_own n es
+pub first_taken : (n : ℕ) (p : ActionKey) (v : List Assignment) (es : PlacedActions) → Some p ≡ first_own n es
     → Some v ≡ lookup (key_is (place_cmp p)) es
     → (filter (own n) (deferreds_of es) ≡ deferred_of (p, v) ∷ filter (own n) (deferreds_of (remove_entry (key_is (place_cmp p)) es)))
     × (deferreds_of (remove_entry (key_is (place_cmp p)) es) ≡ without_first (own n) 1 (deferreds_of es))
@@ -366,18 +366,18 @@ first_taken n p v (e ∷ es) h there =
           )
     ] refl h
   where
-    first_is_own : (n : ℕ) (p : Place) (xs : PlacedActions) → Some p ≡ first_own n xs → (p.connection == n) ≡ true
+    first_is_own : (n : ℕ) (p : ActionKey) (xs : PlacedActions) → Some p ≡ first_own n xs → (p.connection == n) ≡ true
     first_is_own n p [] h = absurd (true≢false (ap is_some h))
     first_is_own n p (x ∷ xs) h =
         elim (is_of n x) as (λ b. is_of n x ≡ b → Some p ≡ option_map (λ (y : Entry). y.0) (slice_get (cond b (x ∷ filter (is_of n) xs) (filter (is_of n) xs)) 0)
         → (p.connection == n) ≡ true) [
-          | true ↦ λ o g. ap (λ (q : Place). q.connection == n) (some_is p x.0 g) ∙ o
+          | true ↦ λ o g. ap (λ (q : ActionKey). q.connection == n) (some_is p x.0 g) ∙ o
           | false ↦ λ o g. first_is_own n p xs g
         ] refl h
 
-    not_at : (n : ℕ) (p : Place) (e : Entry) → is_of n e ≡ false → (es : PlacedActions) → Some p ≡ first_own n es → is_eq (place_cmp p e.0) ≡ false
+    not_at : (n : ℕ) (p : ActionKey) (e : Entry) → is_of n e ≡ false → (es : PlacedActions) → Some p ≡ first_own n es → is_eq (place_cmp p e.0) ≡ false
     not_at n p e o es g =
         elim (is_eq (place_cmp p e.0)) as (λ b. is_eq (place_cmp p e.0) ≡ b → b ≡ false) [
-          | true ↦ λ f. absurd (true≢false (sym (ap (λ (q : Place). q.connection == n) (sym (place_exact p e.0 f)) ∙ first_is_own n p es g) ∙ o))
+          | true ↦ λ f. absurd (true≢false (sym (ap (λ (q : ActionKey). q.connection == n) (sym (place_exact p e.0 f)) ∙ first_is_own n p es g) ∙ o))
           | false ↦ λ f. refl
         ] refl

@@ -15,7 +15,7 @@ use Rattle.std.proofs.lemmas.Bool.Decides.{nat_tests}
 use Rattle.rt_tree.specs.PathTree.{Path, path_cmp, path_eq, path_eq-same, paths_total, exact_paths, key_eq, key_eq-is, strip}
 use Rattle.rt_tree.specs.Assignments.{is_at_or_above}
 use Rattle.rt_peer.specs.declared.listens.Owner.{Owner}
-use Rattle.rt_peer.specs.declared.listens.Spot.{Spot}
+use Rattle.rt_peer.specs.declared.listens.ListenKey.{ListenKey}
 use Rattle.rt_peer.specs.inside.Spots.{owner_cmp, owners_total, spot_cmp, has_owner, is_above, is_in, overlaps}
 use Rattle.rt_peer.specs.inside.Spots.{AreFound, AreKept}
 use Rattle.rt_peer.proofs.PathRuns.{above_first, above_itself, under_from, same_from}
@@ -56,7 +56,7 @@ owner_exact o p e =
     let second : o.tag ≡ p.tag = nat_cmp-IsAntisymmetric o.tag p.tag both.1 in
     λ i. record { connection = first i; tag = second i }
 
-pub spot_exact : (s t : Spot) → is_eq (spot_cmp s t) ≡ true → s ≡ t
+pub spot_exact : (s t : ListenKey) → is_eq (spot_cmp s t) ≡ true → s ≡ t
 spot_exact s t e =
     let both = both_equal (path_cmp s.path t.path) (owner_cmp s.owner t.owner) e in
     let first : s.path ≡ t.path = exact_paths s.path t.path both.0 in
@@ -85,18 +85,18 @@ kept_through a b c h k o e = k o (h o e)
 pub kept_itself : (a : List Owner) → AreKept a a
 kept_itself a o e = e
 
-pub found_kept : (test : Spot → Bool) (spots : List Spot) (old new : List Owner) → AreKept old new
+pub found_kept : (test : ListenKey → Bool) (spots : List ListenKey) (old new : List Owner) → AreKept old new
     → AreFound test spots old → AreFound test spots new
 found_kept test spots old new kept h k d lt e = kept (get_or spots k d).owner (h k d lt e)
 
 -- ---- the run of a path
 
 -- the first spot that there can be at a path
-abbrev pub first_spot : Path → Spot
+abbrev pub first_spot : Path → ListenKey
 first_spot p = record { path = p; owner = record { connection = 0; tag = 0 } }
 
 -- what is not before a path
-abbrev pub NotBefore : Path → Spot → Type 0
+abbrev pub NotBefore : Path → ListenKey → Type 0
 NotBefore p s = is_lt (path_cmp s.path p) ≡ false
 
 zero_only : (n : ℕ) → nat_lt 0 n ≡ false → (0 == n) ≡ true
@@ -123,7 +123,7 @@ not_greater Equal b e f = absurd (true≢false (sym e ∙ f))
 not_greater Greater b e f = refl
 
 -- what stands before the first there can be is not in the run
-pub before_run : (p : Path) (below : Bool) (s : Spot) → is_le (spot_cmp (first_spot p) s) ≡ false
+pub before_run : (p : Path) (below : Bool) (s : ListenKey) → is_le (spot_cmp (first_spot p) s) ≡ false
     → is_in p below s ≡ true → ⊥
 before_run p below s e f =
     let behind : path_cmp p s.path ≡ Greater = not_greater (path_cmp p s.path) (owner_cmp (record { connection = 0; tag = 0 }) s.owner) (least_owner s.owner) e in
@@ -138,13 +138,13 @@ le_not_before Less b e = refl
 le_not_before Equal b e = refl
 le_not_before Greater b e = absurd (true≢false (sym e))
 
-pub not_before : (p : Path) (s : Spot) → is_le (spot_cmp (first_spot p) s) ≡ true → NotBefore p s
+pub not_before : (p : Path) (s : ListenKey) → is_le (spot_cmp (first_spot p) s) ≡ true → NotBefore p s
 not_before p s e =
     ap is_lt (paths_total.antisymm s.path p)
     ∙ le_not_before (path_cmp p s.path) (owner_cmp (record { connection = 0; tag = 0 }) s.owner) e
 
 -- one in front of one in the run is in it
-pub run_through : (p : Path) (below : Bool) (s t : Spot) → NotBefore p s → spot_cmp s t ≡ Less
+pub run_through : (p : Path) (below : Bool) (s t : ListenKey) → NotBefore p s → spot_cmp s t ≡ Less
     → is_in p below t ≡ true → is_in p below s ≡ true
 run_through p below s t from less e =
     let behind : is_lt (path_cmp t.path s.path) ≡ false = ap is_lt (paths_total.antisymm t.path s.path)
@@ -155,7 +155,7 @@ run_through p below s t from less e =
     ] e
 
 -- so where one is not in it, none behind it is
-pub run_over : (p : Path) (below : Bool) (s : Spot) (rest : List Spot) → NotBefore p s
+pub run_over : (p : Path) (below : Bool) (s : ListenKey) (rest : List ListenKey) → NotBefore p s
     → IsStrictlySortedBy spot_cmp (s ∷ rest) → is_in p below s ≡ false
     → (found : List Owner) → AreFound (is_in p below) (s ∷ rest) found
 run_over p below s rest from rise out found =
@@ -170,7 +170,7 @@ and_true true = refl
 and_true false = refl
 
 -- a test of all that a filter lets through, and of what it doesn't
-from_filter : (keep : Spot → Bool) (P : Spot → Type 0) (ks : List Spot) → ((s : Spot) → keep s ≡ false → P s)
+from_filter : (keep : ListenKey → Bool) (P : ListenKey → Type 0) (ks : List ListenKey) → ((s : ListenKey) → keep s ≡ false → P s)
     → All P (filter keep ks) → All P ks
 from_filter keep P [] f h = h
 from_filter keep P (s ∷ ks) f h =
@@ -180,24 +180,24 @@ from_filter keep P (s ∷ ks) f h =
       | false ↦ λ e g. All-cons P s ks (f s e) (from_filter keep P ks f g)
     ] refl h
 
-abbrev pub from : Path → Spot → Bool
+abbrev pub from : Path → ListenKey → Bool
 from p s = is_le (spot_cmp (first_spot p) s) && not false
 
-pub begun : (p : Path) (below : Bool) (ks left : List Spot) → left ≡ filter (from p) ks → (found : List Owner)
+pub begun : (p : Path) (below : Bool) (ks left : List ListenKey) → left ≡ filter (from p) ks → (found : List Owner)
     → AreFound (is_in p below) left found → AreFound (is_in p below) ks found
 begun p below ks left is found h =
     from_filter (from p) (λ s. is_in p below s ≡ true → has_owner found s.owner ≡ true) ks
     (λ s e f. absurd (before_run p below s (sym (and_true (is_le (spot_cmp (first_spot p) s))) ∙ e) f))
     (subst (λ z. AreFound (is_in p below) z found) is h)
 
-pub begun_behind : (p : Path) (ks left : List Spot) → left ≡ filter (from p) ks → All (NotBefore p) left
+pub begun_behind : (p : Path) (ks left : List ListenKey) → left ≡ filter (from p) ks → All (NotBefore p) left
 begun_behind p ks left is =
     subst (All (NotBefore p)) (sym is)
     (λ k d lt.
-    let s : Spot = get_or (filter (from p) ks) k d in
+    let s : ListenKey = get_or (filter (from p) ks) k d in
     not_before p s (sym (and_true (is_le (spot_cmp (first_spot p) s))) ∙ filter_passes (from p) ks k d lt))
 
-pub begun_rising : (p : Path) (ks left : List Spot) → left ≡ filter (from p) ks → IsStrictlySortedBy spot_cmp ks
+pub begun_rising : (p : Path) (ks left : List ListenKey) → left ≡ filter (from p) ks → IsStrictlySortedBy spot_cmp ks
     → IsStrictlySortedBy spot_cmp left
 begun_rising p ks left is rise =
     subst (IsStrictlySortedBy spot_cmp) (sym is) (IsStrictlySortedBy-filter spot_cmp (from p) ks rise)
@@ -205,11 +205,11 @@ begun_rising p ks left is rise =
 -- ---- one turn of the search of a run
 
 -- who is found with all that is left is found in all
-abbrev pub FindsAll : Path → Bool → List Spot → List Spot → List Owner → Type 0
+abbrev pub FindsAll : Path → Bool → List ListenKey → List ListenKey → List Owner → Type 0
 FindsAll p below ks left found = (all : List Owner) → AreKept found all → AreFound (is_in p below) left all
     → AreFound (is_in p below) ks all
 
-pub finds_more : (p : Path) (below : Bool) (ks left rest : List Spot) (s : Spot) (old new : List Owner)
+pub finds_more : (p : Path) (below : Bool) (ks left rest : List ListenKey) (s : ListenKey) (old new : List Owner)
     → left ≡ s ∷ rest → IsAdded s.owner old new → FindsAll p below ks left old → FindsAll p below ks rest new
 finds_more p below ks left rest s old new is added h all kept found =
     h all (kept_through old new all (added_kept s.owner old new added) kept)
@@ -217,7 +217,7 @@ finds_more p below ks left rest s old new is added h all kept found =
     (All-cons (λ t. is_in p below t ≡ true → has_owner all t.owner ≡ true) s rest
     (λ e. kept s.owner (added_itself s.owner old new added)) found))
 
-pub finds_no_more : (p : Path) (below : Bool) (ks left rest : List Spot) (s : Spot) (found : List Owner)
+pub finds_no_more : (p : Path) (below : Bool) (ks left rest : List ListenKey) (s : ListenKey) (found : List Owner)
     → left ≡ s ∷ rest → FindsAll p below ks left found → All (NotBefore p) left → IsStrictlySortedBy spot_cmp left
     → is_in p below s ≡ false → AreFound (is_in p below) ks found
 finds_no_more p below ks left rest s found is h behind rise out =
@@ -226,7 +226,7 @@ finds_no_more p below ks left rest s found is h behind rise out =
     (run_over p below s rest (All-head (NotBefore p) s rest (subst (All (NotBefore p)) is behind))
     (subst (IsStrictlySortedBy spot_cmp) is rise) out found))
 
-pub finds_all : (p : Path) (below : Bool) (ks left : List Spot) (found : List Owner) → left ≡ []
+pub finds_all : (p : Path) (below : Bool) (ks left : List ListenKey) (found : List Owner) → left ≡ []
     → FindsAll p below ks left found → AreFound (is_in p below) ks found
 finds_all p below ks left found none h =
     h found (kept_itself found) (subst (λ z. AreFound (is_in p below) z found) (sym none)
@@ -267,17 +267,17 @@ same_length (k ∷ q) (j ∷ p) e long =
     shorter le = no_less (length q) (length p) (omega (arith, le))
 
 -- above a path, and with fewer keys than so many
-abbrev pub is_shorter : Path → ℕ → Spot → Bool
+abbrev pub is_shorter : Path → ℕ → ListenKey → Bool
 is_shorter p n s = is_at_or_above s.path p && nat_lt (length s.path) n
 
-pub none_shorter : (p : Path) (ks : List Spot) (found : List Owner) → AreFound (is_shorter p 0) ks found
+pub none_shorter : (p : Path) (ks : List ListenKey) (found : List Owner) → AreFound (is_shorter p 0) ks found
 none_shorter p ks found k d lt e =
     absurd (omega (arith, less_of (length (get_or ks k d).path) 0 (second_true (is_at_or_above (get_or ks k d).path p) (nat_lt (length (get_or ks k d).path) 0) e)))
 
-pub one_longer : (p : Path) (n : ℕ) (ks : List Spot) (old new : List Owner) → AreFound (is_shorter p n) ks old
+pub one_longer : (p : Path) (n : ℕ) (ks : List ListenKey) (old new : List Owner) → AreFound (is_shorter p n) ks old
     → AreKept old new → AreFound (is_in (take n p) false) ks new → AreFound (is_shorter p (n + 1)) ks new
 one_longer p n ks old new short kept here k d lt e =
-    let s : Spot = get_or ks k d in
+    let s : ListenKey = get_or ks k d in
     let up = first_true (is_at_or_above s.path p) (nat_lt (length s.path) (n + 1)) e in
     let most = less_of (length s.path) (n + 1) (second_true (is_at_or_above s.path p) (nat_lt (length s.path) (n + 1)) e) in
     elim (nat_lt (length s.path) n) as (λ b. nat_lt (length s.path) n ≡ b → has_owner new s.owner ≡ true) [
@@ -288,19 +288,19 @@ one_longer p n ks old new short kept here k d lt e =
           here k d lt (ap (λ q. path_eq q s.path) is ∙ path_eq-same s.path)
     ] refl
 
-pub all_shorter : (p : Path) (n : ℕ) (ks : List Spot) (found : List Owner) → length p ≤ n
+pub all_shorter : (p : Path) (n : ℕ) (ks : List ListenKey) (found : List Owner) → length p ≤ n
     → AreFound (is_shorter p n) ks found → AreFound (is_above p) ks found
 all_shorter p n ks found le short k d lt e =
-    let s : Spot = get_or ks k d in
+    let s : ListenKey = get_or ks k d in
     let up = first_true (is_at_or_above s.path p) (nat_lt (length s.path) (length p)) e in
     let less = less_of (length s.path) (length p) (second_true (is_at_or_above s.path p) (nat_lt (length s.path) (length p)) e) in
     short k d lt (λ i. up i && is_less (length s.path) n (omega (arith, less, le)) i)
 
 -- what is above a path, at it and below it, is all that it overlaps
-pub overlaps_found : (p : Path) (ks : List Spot) (old new : List Owner) → AreFound (is_above p) ks old
+pub overlaps_found : (p : Path) (ks : List ListenKey) (old new : List Owner) → AreFound (is_above p) ks old
     → AreKept old new → AreFound (is_in p true) ks new → AreFound (overlaps p) ks new
 overlaps_found p ks old new up kept under k d lt e =
-    let s : Spot = get_or ks k d in
+    let s : ListenKey = get_or ks k d in
     elim (is_at_or_above p s.path) as (λ b. is_at_or_above p s.path ≡ b
     → (b || is_at_or_above s.path p) ≡ true → has_owner new s.owner ≡ true) [
       | true ↦ λ f g. under k d lt f

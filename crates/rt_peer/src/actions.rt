@@ -20,7 +20,7 @@ ghost use Rattle.rt_peer.specs.inside.Placed.{without_bare, AllMarked, AreByPlac
 ghost use Rattle.std.specs.Cmp as Cmp;
 
 use crate::connections::{count_of, lower, raise};
-use crate::entry_spots::{EntrySpot, places_under, put_spots, take_spots, take_spots_under};
+use crate::listens::{EntrySpot, places_under, put_spots, take_spots, take_spots_under};
 use rt_tree::{Path, Tree};
 use rt_writes::Entries;
 use std::alloc::{AllocError, Global};
@@ -234,8 +234,12 @@ fn entries_apart(alloc: Global, entries: &Entries, path: &Path) -> Result<Entrie
 }
 
 // Marks the place of an action, where it has no entries.
-fn mark(empty: &mut BTreeSet<Place>, entries: &Entries, place: Place) -> Result<(), AllocError>
-    ensures kept { (p : Place) → has_place empty.old.keys p ≡ true
+fn mark(
+    empty: &mut BTreeSet<ActionKey>,
+    entries: &Entries,
+    place: ActionKey,
+) -> Result<(), AllocError>
+    ensures kept { (p : ActionKey) → has_place empty.old.keys p ≡ true
         → has_place empty.new.keys p ≡ true }
     ensures marked { OnOk result (is_empty entries.now ≡ true
         → has_place empty.new.keys place ≡ true) }
@@ -248,7 +252,7 @@ fn mark(empty: &mut BTreeSet<Place>, entries: &Entries, place: Place) -> Result<
 }
 
 // Whether the action at the place has no entries.
-fn has_bare(by_place: &BTreeMap<Place, Entries>, place: Place) -> bool
+fn has_bare(by_place: &BTreeMap<ActionKey, Entries>, place: ActionKey) -> bool
     ensures { result ≡ option_map_or is_empty (lookup (key_is (place_cmp place)) by_place.now.entries) false }
 {
     match by_place.get(&place) {
@@ -259,9 +263,9 @@ fn has_bare(by_place: &BTreeMap<Place, Entries>, place: Place) -> bool
 
 // Takes out the action at the place, where it has no entries.
 fn drop_one(
-    by_place: &mut BTreeMap<Place, Entries>,
+    by_place: &mut BTreeMap<ActionKey, Entries>,
     counts: &mut BTreeMap<u64, usize>,
-    place: Place,
+    place: ActionKey,
 )
     requires order { AreByPlace by_place.old.entries }
     requires counted { AreCountedBy counts.old.entries by_place.old.entries whose }
@@ -277,8 +281,8 @@ fn drop_one(
 
 // Takes out the actions that have no entries, whose places are marked. Costs by these.
 fn drop_bare(
-    by_place: &mut BTreeMap<Place, Entries>,
-    empty: &mut BTreeSet<Place>,
+    by_place: &mut BTreeMap<ActionKey, Entries>,
+    empty: &mut BTreeSet<ActionKey>,
     counts: &mut BTreeMap<u64, usize>,
 )
     requires order { AreByPlace by_place.old.entries }
@@ -296,8 +300,8 @@ fn drop_bare(
 // The entries of the actions of connections, by place; the marked places of those that have none; where the
 // entries stand by path; how many each connection has; and how many have come.
 pub(crate) struct Placed {
-    by_place: BTreeMap<Place, Entries>,
-    empty: BTreeSet<Place>,
+    by_place: BTreeMap<ActionKey, Entries>,
+    empty: BTreeSet<ActionKey>,
     spots: BTreeSet<EntrySpot>,
     counts: BTreeMap<u64, usize>,
     arrived: u64,
@@ -358,7 +362,7 @@ impl Placed {
         ensures { OnOk result (deferreds_of self.new ≡ in_place runs_before
             (record { connection = connection; id = id; entries = entries }) (deferreds_of self.old)) }
     {
-        let place = Place {
+        let place = ActionKey {
             connection,
             id,
             arrival: self.arrived,
@@ -380,7 +384,7 @@ impl Placed {
     }
 
     // The place of the connection's first action, if there is one. Found by a search.
-    pub(crate) fn first_of(&self, connection: u64) -> Option<Place>
+    pub(crate) fn first_of(&self, connection: u64) -> Option<ActionKey>
         ensures { result ≡ first_own connection self.now }
     {
         let from = first_place(connection);
@@ -392,7 +396,7 @@ impl Placed {
     }
 
     // Takes out the action at the place, and gives its entries.
-    pub(crate) fn take(&mut self, place: Place) -> Option<Entries>
+    pub(crate) fn take(&mut self, place: ActionKey) -> Option<Entries>
         ensures entries { result ≡ lookup (key_is (place_cmp place)) self.old }
         ensures left { self.new ≡ remove_entry (key_is (place_cmp place)) self.old }
         ensures shallow { IfSome result (All IsShallow) }
@@ -414,7 +418,7 @@ impl Placed {
         alloc: Global,
         connection: u64,
         path: &Path,
-    ) -> Result<BTreeSet<Place>, AllocError>
+    ) -> Result<BTreeSet<ActionKey>, AllocError>
         ensures listed { IfOk result (λ places. AreListed connection path.now places.keys self.now) }
         ensures own { IfOk result (λ places. All (λ p. p.connection ≡ connection) places.keys) }
     {
@@ -425,7 +429,12 @@ impl Placed {
 
     // Takes what is at and below the path out of the action at the place, which goes where nothing is left. Costs
     // by the action's entries.
-    pub(crate) fn cut(&mut self, alloc: Global, place: Place, path: &Path) -> Result<(), AllocError>
+    pub(crate) fn cut(
+        &mut self,
+        alloc: Global,
+        place: ActionKey,
+        path: &Path,
+    ) -> Result<(), AllocError>
         ensures cut { OnOk result (self.new ≡ cut_at place path.now self.old) }
         ensures order { AreByPlace self.old }
     {
@@ -461,37 +470,37 @@ impl Placed {
 
 // Where an action stands: by connection, by the number of its request, and then by arrival.
 #[derive(Clone, Copy)]
-pub(crate) struct Place {
+pub(crate) struct ActionKey {
     pub(crate) connection: u64,
     pub(crate) id: u64,
     pub(crate) arrival: u64,
 }
 
-impl PartialEq for Place {
+impl PartialEq for ActionKey {
     ghost eq = { eq_by_cmp place_cmp };
 
     ghost laws = { Cmp.partial_equiv_from_equiv (eq_by_cmp_equiv places_total) };
 
-    fn eq(&self, other: &Place) -> bool {
+    fn eq(&self, other: &ActionKey) -> bool {
         self.cmp(other).is_eq()
     }
 }
 
-impl Eq for Place {
+impl Eq for ActionKey {
     ghost laws = { eq_by_cmp_equiv places_total };
 }
 
-impl PartialOrd for Place {
+impl PartialOrd for ActionKey {
     ghost partial_cmp = { λ x y. Some (place_cmp x y) };
 
     ghost laws = { partial_order_from_total places_total };
 
-    fn partial_cmp(&self, other: &Place) -> Option<Ordering> {
+    fn partial_cmp(&self, other: &ActionKey) -> Option<Ordering> {
         Some(self.cmp(other))
     }
 }
 
-impl Ord for Place {
+impl Ord for ActionKey {
     ghost cmp = { place_cmp };
 
     ghost total = { places_total };
@@ -500,7 +509,7 @@ impl Ord for Place {
 
     ghost matches_eq = { Prim.search rules };
 
-    fn cmp(&self, other: &Place) -> Ordering {
+    fn cmp(&self, other: &ActionKey) -> Ordering {
         self.connection.cmp(&other.connection).then(
             self.id
                 .cmp(&other.id)
@@ -510,10 +519,10 @@ impl Ord for Place {
 }
 
 // The first place that there can be of the connection.
-pub(crate) fn first_place(connection: u64) -> Place
+pub(crate) fn first_place(connection: u64) -> ActionKey
     ensures { result ≡ record { connection = connection; id = 0; arrival = 0 } }
 {
-    Place {
+    ActionKey {
         connection,
         id: 0,
         arrival: 0,

@@ -235,7 +235,7 @@ pub(crate) fn lower(counts: &mut BTreeMap<u64, usize>, connection: u64)
 
 /// How many listens and actions a connection has.
 #[derive(Clone, Copy, Debug, PartialEq, Eq)]
-pub struct Held {
+pub struct ConnectionLoad {
     /// Its listens, each with a tag of its own.
     pub listens: usize,
     /// What is to be done when it ends: the requests that are kept, of which several may have one number.

@@ -13,11 +13,9 @@
 
 mod actions;
 mod connections;
-mod entry_spots;
 mod error;
 mod examples;
 mod laws;
-mod lengths;
 mod listens;
 mod peer;
 mod pushes;
@@ -25,7 +23,7 @@ mod state;
 mod views;
 mod write;
 
-pub use connections::Held;
+pub use connections::ConnectionLoad;
 pub use error::PeerError;
 pub use examples::{
     order_examples, peer_pushes_parts, push_refutations, run_examples, sent_examples,

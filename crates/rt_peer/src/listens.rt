@@ -5,26 +5,36 @@ ghost use Rattle.std.specs.List.{All, AllPairs, filter, list_any};
 ghost use Rattle.std.proofs.Common.{rules};
 ghost use Rattle.std.specs.Cmp.{eq_by_cmp_equiv, partial_order_from_total};
 ghost use Rattle.std.specs.Ordering.{eq_by_cmp};
+ghost use Rattle.std.specs.BTreeMap.Comparable.{le_lt_trans};
 ghost use Rattle.rt_peer.specs.Peers.{Listen, in_place, is_at, is_before, listens_behind};
 ghost use Rattle.rt_peer.specs.inside.Met.{AreHanded};
 ghost use Rattle.rt_peer.specs.inside.Spots.{listen_of, start_of, Stand, owner_cmp, owners_total, spot_cmp};
 ghost use Rattle.rt_peer.specs.inside.Spots.{spots_total, is_above, is_in, overlaps, AreFound, AreKept};
 ghost use Rattle.rt_query.specs.QueryOrder.{query_cmp};
 ghost use Rattle.rt_query.specs.laws.QueryOrder.{queries_total};
+ghost use Rattle.rt_peer.specs.inside.EntrySpots.{entry_spot_cmp, entry_spots_total, is_under};
+ghost use Rattle.rt_peer.specs.inside.EntrySpots.{AreListedUnder, AreOthersKept, AreSpotsKept, HasSpots};
 ghost use Rattle.std.specs.Cmp as Cmp;
 
+use crate::actions::{ActionKey, first_place};
 use crate::connections::{count_of, lower, raise};
 use crate::write::{Numbers, entries_met};
 use rt_query::{Query, query_cmp};
 use rt_tree::{Key, Path, Tree};
+use rt_writes::Entries;
 use std::alloc::{AllocError, Global};
 use std::cmp::Ordering;
+use std::collections::btree_map::Comparable;
 use std::collections::{BTreeMap, BTreeSet};
 use std::marker::Model;
 use std::ops::Bound;
 
 // Adds where the owner's listen stands.
-fn add_spot(spots: &mut BTreeSet<Spot>, query: &Heard, owner: Owner) -> Result<(), AllocError>
+fn add_spot(
+    spots: &mut BTreeSet<ListenKey>,
+    query: &ListenQuery,
+    owner: Owner,
+) -> Result<(), AllocError>
     ensures kept { (l : Listen) → Stand spots.old.keys l → Stand spots.new.keys l }
     ensures added { OnOk result (Stand spots.new.keys (listen_of (owner, query.now))) }
 {
@@ -35,7 +45,7 @@ fn add_spot(spots: &mut BTreeSet<Spot>, query: &Heard, owner: Owner) -> Result<(
 
 // Takes out where the owner's listen at the path stands. Where memory is missing it stays, and leads to
 // nothing.
-fn take_spot(spots: &mut BTreeSet<Spot>, path: &Path, owner: Owner)
+fn take_spot(spots: &mut BTreeSet<ListenKey>, path: &Path, owner: Owner)
     ensures { (l : Listen) → is_at owner.connection owner.tag l ≡ false
         → Stand spots.old.keys l → Stand spots.new.keys l }
 {
@@ -66,8 +76,8 @@ fn start_of(connection: u64, above: Option<u64>) -> Bound<Owner>
 
 // The queries that are listened to, by owner, where they stand by path, and how many each connection has.
 pub(crate) struct Listens {
-    by_owner: BTreeMap<Owner, Heard>,
-    spots: BTreeSet<Spot>,
+    by_owner: BTreeMap<Owner, ListenQuery>,
+    spots: BTreeSet<ListenKey>,
     counts: BTreeMap<u64, usize>,
 }
 
@@ -108,7 +118,7 @@ impl Listens {
     }
 
     // That owner's query.
-    pub(crate) fn get(&self, owner: &Owner) -> Option<&Heard>
+    pub(crate) fn get(&self, owner: &Owner) -> Option<&ListenQuery>
         ensures some { IfSome result (λ q. filter (is_at owner.now.connection owner.now.tag) self.now
             ≡ listen_of (owner.now, q.now) ∷ []) }
         ensures none { IfNone result
@@ -131,7 +141,7 @@ impl Listens {
     }
 
     // Keeps a listen, in the place of the connection's older one with its tag.
-    pub(crate) fn keep(&mut self, owner: Owner, query: Heard) -> Result<(), AllocError>
+    pub(crate) fn keep(&mut self, owner: Owner, query: ListenQuery) -> Result<(), AllocError>
         ensures { OnOk result (self.new ≡ in_place is_before (listen_of (owner, query))
             (filter (λ l. not (is_at owner.connection owner.tag l)) self.old)) }
     {
@@ -148,7 +158,7 @@ impl Listens {
     }
 
     // Takes out the owner's listen, if there is one, and gives its query.
-    pub(crate) fn remove(&mut self, owner: Owner) -> Option<Heard>
+    pub(crate) fn remove(&mut self, owner: Owner) -> Option<ListenQuery>
         ensures left { self.new ≡ filter (λ l. not (is_at owner.connection owner.tag l)) self.old }
         ensures some { IfSome result (λ q. filter (is_at owner.connection owner.tag) self.old
             ≡ listen_of (owner, q) ∷ []) }
@@ -254,42 +264,42 @@ impl Ord for Owner {
 }
 
 // Where a listen stands by path.
-pub(crate) struct Spot {
+pub(crate) struct ListenKey {
     pub(crate) path: Path,
     pub(crate) owner: Owner,
 }
 
-impl Drop for Spot {
+impl Drop for ListenKey {
     fn drop(self) {
-        let Spot { path: _, owner: _ } = self;
+        let ListenKey { path: _, owner: _ } = self;
     }
 }
 
-impl PartialEq for Spot {
+impl PartialEq for ListenKey {
     ghost eq = { eq_by_cmp spot_cmp };
 
     ghost laws = { Cmp.partial_equiv_from_equiv (eq_by_cmp_equiv spots_total) };
 
-    fn eq(&self, other: &Spot) -> bool {
+    fn eq(&self, other: &ListenKey) -> bool {
         self.cmp(other).is_eq()
     }
 }
 
-impl Eq for Spot {
+impl Eq for ListenKey {
     ghost laws = { eq_by_cmp_equiv spots_total };
 }
 
-impl PartialOrd for Spot {
+impl PartialOrd for ListenKey {
     ghost partial_cmp = { λ x y. Some (spot_cmp x y) };
 
     ghost laws = { partial_order_from_total spots_total };
 
-    fn partial_cmp(&self, other: &Spot) -> Option<Ordering> {
+    fn partial_cmp(&self, other: &ListenKey) -> Option<Ordering> {
         Some(self.cmp(other))
     }
 }
 
-impl Ord for Spot {
+impl Ord for ListenKey {
     ghost cmp = { spot_cmp };
 
     ghost total = { spots_total };
@@ -298,7 +308,7 @@ impl Ord for Spot {
 
     ghost matches_eq = { Prim.search rules };
 
-    fn cmp(&self, other: &Spot) -> Ordering {
+    fn cmp(&self, other: &ListenKey) -> Ordering {
         self.path
             .cmp(&other.path)
             .then(self.owner.cmp(&other.owner))
@@ -306,7 +316,7 @@ impl Ord for Spot {
 }
 
 // Whether a spot is at the path, or with what is below, at or below it.
-fn is_in(path: &Path, below: bool, spot: &Spot) -> bool
+fn is_in(path: &Path, below: bool, spot: &ListenKey) -> bool
     ensures { result ≡ is_in path.now below spot.now }
 {
     if below {
@@ -317,17 +327,17 @@ fn is_in(path: &Path, below: bool, spot: &Spot) -> bool
 }
 
 // The owner's spot at the path.
-pub(crate) fn spot_at(path: &Path, owner: Owner) -> Result<Spot, AllocError>
+pub(crate) fn spot_at(path: &Path, owner: Owner) -> Result<ListenKey, AllocError>
     ensures { IfOk result (λ s. s ≡ record { path = path.now; owner = owner }) }
 {
-    Ok(Spot {
+    Ok(ListenKey {
         path: path.copy()?,
         owner,
     })
 }
 
 // The first spot that there can be at the path.
-fn first_at(path: &Path) -> Result<Spot, AllocError>
+fn first_at(path: &Path) -> Result<ListenKey, AllocError>
     ensures { IfOk result (λ s. s ≡ record {
       path = path.now;
       owner = record { connection = 0; tag = 0 };
@@ -342,7 +352,7 @@ fn first_at(path: &Path) -> Result<Spot, AllocError>
 
 // Adds whose spots are at the path, or with what is below, at and below it. Costs by these.
 fn gather_in(
-    spots: &BTreeSet<Spot>,
+    spots: &BTreeSet<ListenKey>,
     path: &Path,
     below: bool,
     found: &mut BTreeSet<Owner>,
@@ -373,7 +383,7 @@ fn path_of(alloc: Global, keys: &[Key]) -> Result<Path, AllocError>
 // Adds whose spots are above the path: one search for each path above it.
 fn gather_above(
     alloc: Global,
-    spots: &BTreeSet<Spot>,
+    spots: &BTreeSet<ListenKey>,
     path: &Path,
     found: &mut BTreeSet<Owner>,
 ) -> Result<(), AllocError>
@@ -391,7 +401,7 @@ fn gather_above(
 // Adds whose spots the path overlaps.
 pub(crate) fn gather(
     alloc: Global,
-    spots: &BTreeSet<Spot>,
+    spots: &BTreeSet<ListenKey>,
     path: &Path,
     found: &mut BTreeSet<Owner>,
 ) -> Result<(), AllocError>
@@ -406,17 +416,17 @@ pub(crate) fn gather(
 // ---- queries that are listened to, each found among others by its order
 
 // A query that is listened to.
-pub(crate) struct Heard {
+pub(crate) struct ListenQuery {
     query: Query,
 }
 
-impl Drop for Heard {
+impl Drop for ListenQuery {
     fn drop(self) {
-        let Heard { query: _ } = self;
+        let ListenQuery { query: _ } = self;
     }
 }
 
-impl Model for Heard {
+impl Model for ListenQuery {
     ghost use Rattle.rt_query.specs.Queries.{Query};
 
     ghost Value = { Query };
@@ -424,11 +434,11 @@ impl Model for Heard {
     ghost view = { λ a. a.query };
 }
 
-impl Heard {
-    pub(crate) fn new(query: Query) -> Heard
+impl ListenQuery {
+    pub(crate) fn new(query: Query) -> ListenQuery
         ensures { result ≡ query }
     {
-        Heard { query }
+        ListenQuery { query }
     }
 
     pub(crate) fn query(&self) -> &Query
@@ -444,39 +454,39 @@ impl Heard {
     }
 
     // An equal one.
-    pub(crate) fn copy(&self) -> Result<Heard, AllocError>
+    pub(crate) fn copy(&self) -> Result<ListenQuery, AllocError>
         ensures { IfOk result (λ heard. heard ≡ self.now) }
     {
         let query = self.query.copy()?;
-        Ok(Heard { query })
+        Ok(ListenQuery { query })
     }
 }
 
-impl PartialEq for Heard {
+impl PartialEq for ListenQuery {
     ghost eq = { eq_by_cmp query_cmp };
 
     ghost laws = { Cmp.partial_equiv_from_equiv (eq_by_cmp_equiv queries_total) };
 
-    fn eq(&self, other: &Heard) -> bool {
+    fn eq(&self, other: &ListenQuery) -> bool {
         self.cmp(other).is_eq()
     }
 }
 
-impl Eq for Heard {
+impl Eq for ListenQuery {
     ghost laws = { eq_by_cmp_equiv queries_total };
 }
 
-impl PartialOrd for Heard {
+impl PartialOrd for ListenQuery {
     ghost partial_cmp = { λ x y. Some (query_cmp x y) };
 
     ghost laws = { partial_order_from_total queries_total };
 
-    fn partial_cmp(&self, other: &Heard) -> Option<Ordering> {
+    fn partial_cmp(&self, other: &ListenQuery) -> Option<Ordering> {
         Some(self.cmp(other))
     }
 }
 
-impl Ord for Heard {
+impl Ord for ListenQuery {
     ghost cmp = { query_cmp };
 
     ghost total = { queries_total };
@@ -485,7 +495,179 @@ impl Ord for Heard {
 
     ghost matches_eq = { Prim.search rules };
 
-    fn cmp(&self, other: &Heard) -> Ordering {
+    fn cmp(&self, other: &ListenQuery) -> Ordering {
         query_cmp(&self.query, &other.query)
+    }
+}
+
+// ---- where the entries of actions stand by path: those of a connection at and below a path stand
+// together, and are found by a search
+
+// Where an entry of an action stands: whose action it is, and the entry's path.
+pub(crate) struct EntrySpot {
+    pub(crate) place: ActionKey,
+    pub(crate) path: Path,
+}
+
+impl Drop for EntrySpot {
+    fn drop(self) {
+        let EntrySpot { place: _, path: _ } = self;
+    }
+}
+
+impl PartialEq for EntrySpot {
+    ghost eq = { eq_by_cmp entry_spot_cmp };
+
+    ghost laws = { Cmp.partial_equiv_from_equiv (eq_by_cmp_equiv entry_spots_total) };
+
+    fn eq(&self, other: &EntrySpot) -> bool {
+        self.cmp(other).is_eq()
+    }
+}
+
+impl Eq for EntrySpot {
+    ghost laws = { eq_by_cmp_equiv entry_spots_total };
+}
+
+impl PartialOrd for EntrySpot {
+    ghost partial_cmp = { λ x y. Some (entry_spot_cmp x y) };
+
+    ghost laws = { partial_order_from_total entry_spots_total };
+
+    fn partial_cmp(&self, other: &EntrySpot) -> Option<Ordering> {
+        Some(self.cmp(other))
+    }
+}
+
+impl Ord for EntrySpot {
+    ghost cmp = { entry_spot_cmp };
+
+    ghost total = { entry_spots_total };
+
+    ghost matches_partial_cmp = { Prim.search rules };
+
+    ghost matches_eq = { Prim.search rules };
+
+    fn cmp(&self, other: &EntrySpot) -> Ordering {
+        self.place.connection.cmp(&other.place.connection).then(
+            self.path
+                .cmp(&other.path)
+                .then(self.place.cmp(&other.place)),
+        )
+    }
+}
+
+// The spot of an entry, whose path is lent.
+#[derive(Clone, Copy)]
+struct Lent<'a> {
+    place: ActionKey,
+    path: &'a Path,
+}
+
+impl Comparable<EntrySpot> for Lent<'_> {
+    ghost compare = { λ q. entry_spot_cmp (record { place = q.place; path = q.path.now }) };
+
+    ghost respects_cmp = { λ q. entry_spots_total.congr (record { place = q.place; path = q.path.now }) };
+
+    ghost below_greater = { λ q. le_lt_trans entry_spots_total (record { place = q.place; path = q.path.now }) };
+
+    fn compare(&self, spot: &EntrySpot) -> Ordering {
+        self.place.connection.cmp(&spot.place.connection).then(
+            self.path.cmp(&spot.path).then(self.place.cmp(&spot.place)),
+        )
+    }
+}
+
+// Whether a spot is the connection's, at or below the path.
+fn is_under(connection: u64, path: &Path, spot: &EntrySpot) -> bool
+    ensures { result ≡ is_under connection path.now spot.now }
+{
+    spot.place.connection == connection && path.is_prefix_of(&spot.path)
+}
+
+// The spot of an entry.
+fn spot_of(place: ActionKey, path: &Path) -> Result<EntrySpot, AllocError>
+    ensures { IfOk result (λ s. s ≡ record { place = place; path = path.now }) }
+{
+    Ok(EntrySpot {
+        place,
+        path: path.copy()?,
+    })
+}
+
+// The first spot that there can be of the connection at the path.
+fn first_spot(connection: u64, path: &Path) -> Result<EntrySpot, AllocError>
+    ensures { IfOk result (λ s. s ≡ record {
+      place = record { connection = connection; id = 0; arrival = 0 };
+      path = path.now;
+    }) }
+{
+    spot_of(first_place(connection), path)
+}
+
+// The places of the connection's actions that have a spot at or below the path. Costs by these spots.
+pub(crate) fn places_under(
+    alloc: Global,
+    spots: &BTreeSet<EntrySpot>,
+    connection: u64,
+    path: &Path,
+) -> Result<BTreeSet<ActionKey>, AllocError>
+    ensures listed { IfOk result (λ places. AreListedUnder connection path.now places.keys spots.now.keys) }
+    ensures own { IfOk result (λ places. All (λ p. p.connection ≡ connection) places.keys) }
+{
+    let mut places = BTreeSet::new(alloc);
+    let from = first_spot(connection, path)?;
+    for spot in spots.range(from..) {
+        if !is_under(connection, path, spot) {
+            return Ok(places);
+        }
+        places.insert(spot.place)?;
+    }
+    Ok(places)
+}
+
+// Adds the spots of the entries of an action.
+pub(crate) fn put_spots(
+    spots: &mut BTreeSet<EntrySpot>,
+    place: ActionKey,
+    entries: &Entries,
+) -> Result<(), AllocError>
+    ensures kept { AreSpotsKept spots.old.keys spots.new.keys }
+    ensures put { OnOk result (HasSpots spots.new.keys (place, entries.now)) }
+{
+    for entry in entries.as_slice() {
+        spots.insert(spot_of(place, &entry.0)?)?;
+    }
+    Ok(())
+}
+
+// Takes out the spots of an action's entries.
+pub(crate) fn take_spots(spots: &mut BTreeSet<EntrySpot>, place: ActionKey, entries: &Entries)
+    ensures { AreOthersKept place [] spots.old.keys spots.new.keys }
+{
+    for entry in entries.as_slice() {
+        spots.remove(Lent {
+            place,
+            path: &entry.0,
+        });
+    }
+}
+
+// Takes out the spots of those entries of an action that are at or below the path.
+pub(crate) fn take_spots_under(
+    spots: &mut BTreeSet<EntrySpot>,
+    place: ActionKey,
+    entries: &Entries,
+    path: &Path,
+)
+    ensures { AreOthersKept place path.now spots.old.keys spots.new.keys }
+{
+    for entry in entries.as_slice() {
+        if path.is_prefix_of(&entry.0) {
+            spots.remove(Lent {
+                place,
+                path: &entry.0,
+            });
+        }
     }
 }

@@ -10,7 +10,7 @@ ghost use Rattle.rt_peer.specs.Pushes.{seen, written};
 ghost use Rattle.rt_peer.specs.Calls.{actions_of, answered, connected, disconnected, fault};
 ghost use Rattle.rt_peer.specs.Turns.{is_last_turn, turned};
 
-use crate::connections::Held;
+use crate::connections::ConnectionLoad;
 use crate::error::PeerError;
 use crate::pushes::Sent;
 use crate::state::State;
@@ -111,7 +111,7 @@ impl Peer {
     /// How many listens and actions the connection has: none where it is not known.
     ///
     /// Costs by a logarithm. So a server may ask before each message, and bound what one connection holds.
-    pub fn held(&self, connection: u64) -> Held
+    pub fn held(&self, connection: u64) -> ConnectionLoad
         ensures listens { IfSome self.now
             (λ p. result.listens ≡ length (filter (λ l. l.connection == connection) p.listens)) }
         ensures actions { IfSome self.now (λ p. result.actions ≡ length (actions_of p connection)) }

@@ -13,7 +13,7 @@ ghost use Rattle.rt_peer.specs.inside.Spots.{listen_of};
 ghost use Rattle.rt_peer.specs.inside.Watched.{AreHeard, AreOf, AreTurned, GoesOn, IsVisited};
 
 use crate::connections::Rising;
-use crate::listens::{Heard, Listens, Owner};
+use crate::listens::{ListenQuery, Listens, Owner};
 use crate::views::{Views, look, part_at};
 use crate::write::{Numbers, Write, differ_below, is_any_above, is_same_at, leaves_part, picked};
 use rt_query::Query;
@@ -117,7 +117,7 @@ fn push_plain(
 
 // What a write has brought so far: what filtered queries were told, the views, and what is sent.
 struct Round {
-    looked: BTreeMap<Heard, Option<Tree>>,
+    looked: BTreeMap<ListenQuery, Option<Tree>>,
     views: Views,
     sent: Vec<Sent>,
 }
@@ -158,7 +158,7 @@ fn push_filtered(
     write: &Write,
     entries: &[(Path, Tree)],
     owner: &Owner,
-    heard: &Heard,
+    heard: &ListenQuery,
     round: &mut Round,
 ) -> Result<(), AllocError>
     requires made { IsMadeAt heard.now.path entries.now write.now }
@@ -203,7 +203,7 @@ fn push_one(
     write: &Write,
     entries: &[(Path, Tree)],
     owner: &Owner,
-    heard: &Heard,
+    heard: &ListenQuery,
     round: &mut Round,
 ) -> Result<(), AllocError>
     requires made { IsMadeAt heard.now.path entries.now write.now }
@@ -231,7 +231,7 @@ fn push_own(
     entries: &[(Path, Tree)],
     owner: &Owner,
     numbers: &Numbers,
-    heard: &Heard,
+    heard: &ListenQuery,
     round: &mut Round,
 ) -> Result<(), AllocError>
     requires made { write.now.after ≡ written write.now.before entries.now }

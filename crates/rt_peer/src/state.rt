@@ -18,12 +18,11 @@ ghost use Rattle.rt_wire.specs.declared.request.Asked.TheVariants as Asked;
 ghost use Rattle.rt_wire.specs.declared.request.Ending.TheVariants as Ending;
 
 use crate::actions::{Actions, Deferred};
-use crate::connections::{Connections, Held, Rising};
-use crate::lengths::{Measured, text_len};
-use crate::listens::{Heard, Listens, Owner};
+use crate::connections::{ConnectionLoad, Connections, Rising};
+use crate::listens::{ListenQuery, Listens, Owner};
 use crate::pushes::{Sent, bundle, push_all};
 use crate::views::{Views, seen};
-use crate::write::Write;
+use crate::write::{Measured, Write, text_len};
 use rt_query::Query;
 use rt_tree::{Path, Tree};
 use rt_wire::{Action, Asked, ClientMessage, Ending, Reason, ServerMessage, some_stands_too_deep};
@@ -124,12 +123,12 @@ impl State {
     }
 
     // How many listens and actions the connection has.
-    pub(crate) fn held(&self, connection: u64) -> Held
+    pub(crate) fn held(&self, connection: u64) -> ConnectionLoad
         ensures listens { result.listens
             ≡ length (filter (λ l. l.connection == connection) self.now.listens) }
         ensures actions { result.actions ≡ length (actions_of self.now connection) }
     {
-        Held {
+        ConnectionLoad {
             listens: self.board.count_of(connection),
             actions: self.actions.count_of(connection),
         }
@@ -195,7 +194,7 @@ impl State {
         ensures { OnOk result (self.new ≡ kept self.old connection tag query.now) }
     {
         let alloc = self.alloc();
-        let query = Heard::new(query.copy()?);
+        let query = ListenQuery::new(query.copy()?);
         self.board.keep(alloc, Owner { connection, tag }, query)
     }
 
@@ -585,7 +584,7 @@ impl Board {
         &mut self,
         alloc: Global,
         owner: Owner,
-        query: Heard,
+        query: ListenQuery,
     ) -> Result<(), AllocError>
         ensures { OnOk result (self.new ≡ record self.old {
           listens = in_place is_before (listen_of (owner, query))

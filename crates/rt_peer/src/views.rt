@@ -15,7 +15,7 @@ ghost use Rattle.rt_view.specs.Views.{renewed, shown_of, told, touched};
 ghost use Rattle.rt_writes.specs.Writes.{IsShallow};
 ghost use Rattle.rt_peer.specs.Pushes.{seen};
 
-use crate::listens::Heard;
+use crate::listens::ListenQuery;
 use crate::write::{Write, is_any_above, leaves_part};
 use rt_query::Query;
 use rt_tree::{Key, MAX_KEYS, Path, Tree, TreeError};
@@ -26,7 +26,7 @@ use std::marker::Model;
 
 // The views by query.
 pub(crate) struct Views {
-    by_query: BTreeMap<Heard, Watched>,
+    by_query: BTreeMap<ListenQuery, Watched>,
 }
 
 impl Drop for Views {
@@ -55,7 +55,7 @@ impl Views {
     }
 
     // Takes out the query's view.
-    pub(crate) fn forget(&mut self, heard: &Heard)
+    pub(crate) fn forget(&mut self, heard: &ListenQuery)
         ensures { (q : Query) → at_query self.new q
             ≡ if is_eq (query_cmp heard.now q) then None else at_query self.old q }
     {
@@ -63,7 +63,12 @@ impl Views {
     }
 
     // Takes out the query's view, or makes one of the tree.
-    fn take(&mut self, alloc: Global, tree: &Tree, heard: &Heard) -> Result<Watched, AllocError>
+    fn take(
+        &mut self,
+        alloc: Global,
+        tree: &Tree,
+        heard: &ListenQuery,
+    ) -> Result<Watched, AllocError>
         requires filtered { is_filtered heard.now ≡ true }
         requires of { IfSome (at_query self.old heard.now) (IsOf tree.now heard.now) }
         ensures of { IfOk result (λ watched. IsOf tree.now heard.now watched) }
@@ -77,7 +82,7 @@ impl Views {
     }
 
     // Puts the query's view where it stands.
-    fn put(&mut self, heard: &Heard, watched: Watched) -> Result<(), AllocError>
+    fn put(&mut self, heard: &ListenQuery, watched: Watched) -> Result<(), AllocError>
         ensures { OnOk result ((q : Query) → at_query self.new q
             ≡ if is_eq (query_cmp heard.now q) then Some watched else at_query self.old q) }
     {
@@ -94,7 +99,7 @@ impl Views {
         alloc: Global,
         write: &Write,
         entries: &[(Path, Tree)],
-        heard: &Heard,
+        heard: &ListenQuery,
     ) -> Result<Option<Tree>, AllocError>
         requires made { IsMadeAt heard.now.path entries.now write.now }
         requires filtered { is_filtered heard.now ≡ true }
@@ -210,7 +215,7 @@ fn show(
     alloc: Global,
     write: &Write,
     entries: &[(Path, Tree)],
-    heard: &Heard,
+    heard: &ListenQuery,
 ) -> Result<ChangeList, AllocError>
     requires made { IsMadeAt heard.now.path entries.now write.now }
     requires of { IsViewOf write.now.before heard.now view.old }
@@ -251,7 +256,11 @@ impl Drop for Watched {
 
 impl Watched {
     // What the filtered query shows of the tree.
-    pub(crate) fn new(alloc: Global, tree: &Tree, heard: &Heard) -> Result<Watched, AllocError>
+    pub(crate) fn new(
+        alloc: Global,
+        tree: &Tree,
+        heard: &ListenQuery,
+    ) -> Result<Watched, AllocError>
         requires { is_filtered heard.now ≡ true }
         ensures { IfOk result (λ watched. IsOf tree.now heard.now watched) }
     {
@@ -267,7 +276,7 @@ impl Watched {
         alloc: Global,
         write: &Write,
         entries: &[(Path, Tree)],
-        heard: &Heard,
+        heard: &ListenQuery,
     ) -> Result<Option<Tree>, AllocError>
         requires made { IsMadeAt heard.now.path entries.now write.now }
         requires of { IsOf write.now.before heard.now self.old }
@@ -307,8 +316,8 @@ fn copied(alloc: Global, told: &Option<Tree>) -> Result<Option<Tree>, AllocError
 // Notes what a query is told.
 fn note(
     alloc: Global,
-    looked: &mut BTreeMap<Heard, Option<Tree>>,
-    heard: &Heard,
+    looked: &mut BTreeMap<ListenQuery, Option<Tree>>,
+    heard: &ListenQuery,
     told: &Option<Tree>,
 ) -> Result<(), AllocError>
     ensures { OnOk result ((q : Query) → at_query looked.new.entries q
@@ -326,8 +335,8 @@ fn look_anew(
     alloc: Global,
     write: &Write,
     entries: &[(Path, Tree)],
-    heard: &Heard,
-    looked: &mut BTreeMap<Heard, Option<Tree>>,
+    heard: &ListenQuery,
+    looked: &mut BTreeMap<ListenQuery, Option<Tree>>,
     views: &mut Views,
 ) -> Result<Option<Tree>, AllocError>
     requires made { IsMadeAt heard.now.path entries.now write.now }
@@ -350,8 +359,8 @@ pub(crate) fn look(
     alloc: Global,
     write: &Write,
     entries: &[(Path, Tree)],
-    heard: &Heard,
-    looked: &mut BTreeMap<Heard, Option<Tree>>,
+    heard: &ListenQuery,
+    looked: &mut BTreeMap<ListenQuery, Option<Tree>>,
     views: &mut Views,
 ) -> Result<Option<Tree>, AllocError>
     requires made { IsMadeAt heard.now.path entries.now write.now }

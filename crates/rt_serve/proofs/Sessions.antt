@@ -18,8 +18,8 @@ use Rattle.rt_wire.specs.declared.request.Ending.TheVariants.{Run, Cancel}
 use Rattle.rt_wire.specs.declared.server.ServerMessage.TheVariants.{Data, Accepted, Refused, Revoked}
 use Rattle.rt_peer.specs.declared.error.PeerError.{PeerError}
 use Rattle.rt_peer.specs.declared.error.PeerError.TheVariants.{Failed, UnknownConnection, NoMemory}
-use Rattle.rt_serve.specs.declared.error.ServeError.{ServeError}
-use Rattle.rt_serve.specs.declared.error.ServeError.TheVariants.{Failed as Refused}
+use Rattle.rt_serve.specs.declared.serve.ServeError.{ServeError}
+use Rattle.rt_serve.specs.declared.serve.ServeError.TheVariants.{Failed as Refused}
 use Rattle.rt_peer.specs.Peers.{Peer, in_place, is_known, least_free, is_denied}
 use Rattle.rt_peer.specs.Pushes.{seen}
 use Rattle.rt_peer.specs.Calls.{Outcome, one, connected, kept, answered, disconnected, entries_of, fault}

@@ -1,7 +1,7 @@
 -- The number and the name of each error.
 use Rattle.std.specs.Prelude.{ℕ, List, codes}
-use Rattle.rt_serve.specs.declared.error.ServeError.{ServeError}
-use Rattle.rt_serve.specs.declared.error.ServeError.TheVariants.{Failed, NoMemory}
+use Rattle.rt_serve.specs.declared.serve.ServeError.{ServeError}
+use Rattle.rt_serve.specs.declared.serve.ServeError.TheVariants.{Failed, NoMemory}
 
 -- the number of an error
 abbrev pub code_of : ServeError → ℕ

@@ -3,7 +3,7 @@
 --     Errors      the number and the name of each error
 -- Those that the steps of a connection name, none of which is public:
 --     Codes       the code that a client is told
---     Heard       what a read of the socket says, and what that is to the peer
+--     Reads       what a read of the socket says, and what that is to the peer
 --     Answers     what is sent to the connection for a text
 --     Closing     the close that a client is sent which broke the protocol
 --     Endings     what is told of the end of a connection
@@ -15,6 +15,6 @@ pub mod Codes
 pub mod Endings
 pub mod Errors
 pub mod Handshakes
-pub mod Heard
+pub mod Reads
 pub mod Sessions
 pub mod laws

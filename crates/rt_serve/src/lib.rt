@@ -11,9 +11,7 @@
 //! sees the peer alone: what any texts leave of it (`specs/Sessions.antt`).
 #![tactic(auto)]
 
-mod error;
 mod serve;
 mod socket;
 
-pub use error::ServeError;
-pub use serve::{MAX_MESSAGES, serve_logged, serve_stream, session_law};
+pub use serve::{MAX_MESSAGES, ServeError, serve_logged, serve_stream, session_law};

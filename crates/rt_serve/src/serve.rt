@@ -7,13 +7,13 @@ ghost use Rattle.rt_peer.specs.Calls.{connected, fault};
 ghost use Rattle.rt_peer.specs.Runs.{after_all};
 ghost use Rattle.rt_input.specs.Counted.{known_output};
 ghost use Rattle.rt_serve.specs.Answers.{Tells, told, IsAnswer, own};
-ghost use Rattle.rt_serve.specs.Heard.{calls_of, ended_by, is_over};
+ghost use Rattle.rt_serve.specs.Reads.{calls_of, ended_by, is_over};
 ghost use Rattle.rt_serve.specs.Sessions.{call_of, HasServed, HasTaken, ServedIf};
 ghost use Rattle.rt_serve.specs.Handshakes.{is_done};
 ghost use Rattle.rt_serve.specs.laws.Sessions.{SessionsLeaveConnections};
+ghost use Rattle.rt_serve.specs.Errors.{code_of, name_of};
 
-use crate::error::ServeError;
-use crate::socket::{Handshake, Heard, ServeEnd, Socket, close, hear, send_all, shake_hands};
+use crate::socket::{Handshake, ServeEnd, Socket, SocketRead, close, hear, send_all, shake_hands};
 use rt_input::{Log, MAX_MESSAGE_BYTES, Silent};
 use rt_peer::{Peer, PeerError, Sent};
 use rt_socket::{SocketFault, or_unknown};
@@ -21,6 +21,7 @@ use rt_wire::{ClientMessage, MAX_MARKS, WireError, is_crowded};
 use std::alloc::{AllocError, Global};
 use std::fmt;
 use std::io::{Read, Write};
+use thiserror::Error;
 
 /// After how many messages of any kind, pings and pongs among them, a connection is ended.
 pub const MAX_MESSAGES: usize = 1_000_000;
@@ -63,7 +64,7 @@ fn take_heard<S: Read + Write + Drop, L: Log>(
     peer: &mut Peer,
     socket: &mut Socket<S>,
     connection: u64,
-    heard: &Heard,
+    heard: &SocketRead,
     log: &mut L,
 ) -> Result<Option<ServeEnd>, ServeError>
     requires { fault peer.old connection ≡ None }
@@ -76,7 +77,7 @@ fn take_heard<S: Read + Write + Drop, L: Log>(
     ensures memory { IfErr result (λ e. e ≡ ServeError.NoMemory) }
 {
     match heard {
-        Heard::Text(words) => {
+        SocketRead::Text(words) => {
             if is_crowded(words.as_str()) {
                 return Ok(Some(ServeEnd::Crowded));
             }
@@ -85,12 +86,12 @@ fn take_heard<S: Read + Write + Drop, L: Log>(
             }
             Ok(None)
         }
-        Heard::Binary => {
+        SocketRead::Binary => {
             binary_passed_over(alloc, log, connection);
             Ok(None)
         }
-        Heard::Nothing => Ok(None),
-        Heard::Ended(end) => Ok(Some(*end)),
+        SocketRead::Nothing => Ok(None),
+        SocketRead::Ended(end) => Ok(Some(*end)),
     }
 }
 
@@ -426,3 +427,38 @@ impl fmt::Display for ServeEnd {
 pub fn session_law()
     ensures { SessionsLeaveConnections }
 {}
+
+// ---- why serving is given up
+
+/// Why a stream is not served, or no longer.
+#[derive(Clone, Copy, Debug, PartialEq, Eq, Error)]
+pub enum ServeError {
+    /// The peer has lacked memory before.
+    #[error("the peer has lacked memory before")]
+    Failed,
+    /// A growth was refused.
+    #[error("out of memory")]
+    NoMemory,
+}
+
+impl ServeError {
+    /// The number of the error, from 1 to 2.
+    pub fn code(&self) -> u8
+        ensures { result ≡ code_of self.now }
+    {
+        match self {
+            ServeError::Failed => 1,
+            ServeError::NoMemory => 2,
+        }
+    }
+
+    /// The name of the error, as it is printed.
+    pub fn name(&self) -> &'static str
+        ensures { result.now ≡ name_of self.now }
+    {
+        match self {
+            ServeError::Failed => "Failed",
+            ServeError::NoMemory => "NoMemory",
+        }
+    }
+}

@@ -7,10 +7,10 @@ ghost use Rattle.tungstenite.specs.Socket.{Writes, content_of};
 ghost use Rattle.rt_input.specs.Counted.{known_output};
 ghost use Rattle.rt_serve.specs.Answers.{Tells, text_of, texts_of};
 ghost use Rattle.rt_serve.specs.Closing.{close_frame};
-ghost use Rattle.rt_serve.specs.Heard.{end_of, is_over, close_code_of, heard_fault, heard_message, heard_of};
+ghost use Rattle.rt_serve.specs.Reads.{end_of, is_over, close_code_of, heard_fault, heard_message, heard_of};
 ghost use Rattle.rt_serve.specs.Codes.{fault_code, protocol_code, stream_code};
 
-use crate::error::ServeError;
+use crate::serve::ServeError;
 use rt_input::Counted;
 use rt_peer::Sent;
 use rt_socket::{Origins, SocketFault, fault_of};
@@ -24,30 +24,30 @@ use websocket::error::ProtocolError;
 pub(crate) type Socket<S> = WebSocket<Counted<S>, NoMask>;
 
 // A socket that is held: it ends by a call.
-pub(crate) struct Held<S> {
+pub(crate) struct OwnedSocket<S> {
     pub(crate) socket: Socket<S>,
 }
 
-impl<S: Drop> Drop for Held<S> {
+impl<S: Drop> Drop for OwnedSocket<S> {
     fn drop(self) {
-        let Held { socket: _ } = self;
+        let OwnedSocket { socket: _ } = self;
     }
 }
 
 // What came of a handshake: a socket, or why there is none.
 #[derive(Drop)]
 pub(crate) enum Handshake<S> {
-    Done(Held<S>),
+    Done(OwnedSocket<S>),
     Failed(SocketFault),
 }
 
 // A socket of which a message may have so many bytes.
-fn limited<S: Read + Write + Drop>(mut socket: Socket<S>, most: usize) -> Held<S> {
+fn limited<S: Read + Write + Drop>(mut socket: Socket<S>, most: usize) -> OwnedSocket<S> {
     let limits = WebSocketConfig::default()
         .max_message_size(Some(most))
         .max_frame_size(Some(most));
     socket.set_config(limits);
-    Held { socket }
+    OwnedSocket { socket }
 }
 
 // A handshake that failed so: for another cause than memory it is none.
@@ -87,7 +87,7 @@ fn is_over<S: Read + Write + Drop>(socket: &Socket<S>) -> bool
 }
 
 // What the next message of the socket says, also where what it has to answer by itself can't be written.
-fn read_on<S: Read + Write + Drop>(socket: &mut Socket<S>) -> Result<Heard, ServeError>
+fn read_on<S: Read + Write + Drop>(socket: &mut Socket<S>) -> Result<SocketRead, ServeError>
     ensures { IfErr result (λ e. e ≡ ServeError.NoMemory) }
 {
     let heard = heard_from(socket.read())?;
@@ -99,14 +99,14 @@ fn read_on<S: Read + Write + Drop>(socket: &mut Socket<S>) -> Result<Heard, Serv
 }
 
 // What the socket says next. It has ended only where nothing more can be read.
-pub(crate) fn hear<S: Read + Write + Drop>(socket: &mut Socket<S>) -> Result<Heard, ServeError>
+pub(crate) fn hear<S: Read + Write + Drop>(socket: &mut Socket<S>) -> Result<SocketRead, ServeError>
     ensures memory { IfErr result (λ e. e ≡ ServeError.NoMemory) }
     ensures ended { IfOk result (λ heard. IfSome (end_of heard) (λ _. is_over socket.new ≡ true)) }
 {
     socket.get_mut().await_message();
     let heard = read_on(socket)?;
     if heard.end().is_some() && !is_over(socket) {
-        return Ok(Heard::Nothing);
+        return Ok(SocketRead::Nothing);
     }
     Ok(heard)
 }
@@ -210,7 +210,7 @@ pub(crate) enum ServeEnd {
 }
 
 // What a read of the socket says.
-pub(crate) enum Heard {
+pub(crate) enum SocketRead {
     Text(Utf8Bytes),
     Binary,
     // A ping, which the socket answers by itself, or a pong.
@@ -218,58 +218,64 @@ pub(crate) enum Heard {
     Ended(ServeEnd),
 }
 
-impl Drop for Heard {
+impl Drop for SocketRead {
     fn drop(self) {
         match self {
-            Heard::Text(_) | Heard::Binary | Heard::Nothing | Heard::Ended(_) => {}
+            SocketRead::Text(_) | SocketRead::Binary | SocketRead::Nothing | SocketRead::Ended(_) =>
+                {}
         }
     }
 }
 
-impl Heard {
+impl SocketRead {
     // Why the connection has ended by itself, where it has.
     pub(crate) fn end(&self) -> Option<ServeEnd>
         ensures { result ≡ end_of self.now }
     {
         match self {
-            Heard::Ended(end) => Some(*end),
-            Heard::Text(_) | Heard::Binary | Heard::Nothing => None,
+            SocketRead::Ended(end) => Some(*end),
+            SocketRead::Text(_) | SocketRead::Binary | SocketRead::Nothing => None,
         }
     }
 
     // Whether the stream has failed.
     pub(crate) fn has_lost_stream(&self) -> bool {
-        matches!(self, Heard::Ended(ServeEnd::Failed(SocketFault::Io(_))))
+        matches!(
+            self,
+            SocketRead::Ended(ServeEnd::Failed(SocketFault::Io(_)))
+        )
     }
 }
 
 // What a message says.
-fn heard_message(message: Message) -> Heard
+fn heard_message(message: Message) -> SocketRead
     ensures { result ≡ heard_message message }
 {
     match message {
-        Message::Text(words) => Heard::Text(words),
-        Message::Binary(_) => Heard::Binary,
-        Message::Ping(_) | Message::Pong(_) => Heard::Nothing,
-        Message::Close(None) => Heard::Ended(ServeEnd::Closed(None)),
-        Message::Close(Some(frame)) => Heard::Ended(ServeEnd::Closed(Some(u16::from(frame.code)))),
+        Message::Text(words) => SocketRead::Text(words),
+        Message::Binary(_) => SocketRead::Binary,
+        Message::Ping(_) | Message::Pong(_) => SocketRead::Nothing,
+        Message::Close(None) => SocketRead::Ended(ServeEnd::Closed(None)),
+        Message::Close(Some(frame)) => SocketRead::Ended(ServeEnd::Closed(Some(u16::from(
+            frame.code,
+        )))),
     }
 }
 
 // What a fault of a read says. A read that is given up says nothing.
-fn heard_fault(why: SocketFault) -> Result<Heard, ServeError>
+fn heard_fault(why: SocketFault) -> Result<SocketRead, ServeError>
     ensures heard { result ≡ heard_fault why }
     ensures memory { IfErr result (λ e. e ≡ ServeError.NoMemory) }
 {
     match why {
         SocketFault::OutOfMemory => Err(ServeError::NoMemory),
-        why if why.is_blocked() => Ok(Heard::Nothing),
-        why => Ok(Heard::Ended(ServeEnd::Failed(why))),
+        why if why.is_blocked() => Ok(SocketRead::Nothing),
+        why => Ok(SocketRead::Ended(ServeEnd::Failed(why))),
     }
 }
 
 // What a message or an error of the socket says.
-pub(crate) fn heard_from(read: Result<Message, Error>) -> Result<Heard, ServeError>
+pub(crate) fn heard_from(read: Result<Message, Error>) -> Result<SocketRead, ServeError>
     ensures heard { result ≡ heard_of read }
     ensures memory { IfErr result (λ e. e ≡ ServeError.NoMemory) }
 {

@@ -14,8 +14,8 @@ use Rattle.rt_socket.specs.Awaiting.{AsksIf, Awaits, IsSilent, Pushes, Ticks, is
 use Rattle.rt_socket.specs.Awaiting.{sent_by, unsent_by}
 use Rattle.rt_socket.specs.Hearing.{fault_of}
 use Rattle.rt_socket.specs.Sockets.{Hears}
-use Rattle.rt_socket.specs.declared.lost.Lost.{Lost}
-use Rattle.rt_socket.specs.declared.lost.Lost.TheVariants.{Silent}
+use Rattle.rt_socket.specs.declared.wire.Lost.{Lost}
+use Rattle.rt_socket.specs.declared.wire.Lost.TheVariants.{Silent}
 use Rattle.rt_socket.specs.declared.patience.TheConstants.{ASKING_TICK, SILENT_TICKS}
 use Rattle.rt_socket.specs.declared.wire.Heard.{Heard}
 use Rattle.rt_socket.specs.declared.wire.Heard.TheVariants.{Text, Binary, Sign, Nothing, Ended}

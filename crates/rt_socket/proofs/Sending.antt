@@ -8,7 +8,7 @@ use Rattle.tungstenite.specs.declared.error.Error.{Error}
 use Rattle.tungstenite.specs.declared.error.Error.TheVariants as error
 use Rattle.rt_socket.specs.Hearing.{heard_from, taken_by}
 use Rattle.rt_socket.specs.Sockets.{GoesBehind, Hears}
-use Rattle.rt_socket.specs.declared.lost.Lost.{Lost}
+use Rattle.rt_socket.specs.declared.wire.Lost.{Lost}
 use Rattle.rt_socket.specs.declared.wire.Heard.{Heard}
 use Rattle.rt_socket.specs.declared.wire.Heard.TheVariants.{Text, Binary, Sign, Nothing, Ended}
 

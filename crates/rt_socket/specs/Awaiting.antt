@@ -12,8 +12,8 @@ use Rattle.websocket.specs.declared.error.Error.{Error as FrameError}
 use Rattle.rt_input.specs.Counted.{CountedStream}
 use Rattle.rt_socket.specs.declared.socket.SocketFault.{SocketFault}
 use Rattle.rt_socket.specs.declared.socket.SocketFault.TheVariants as fault
-use Rattle.rt_socket.specs.declared.lost.Lost.{Lost}
-use Rattle.rt_socket.specs.declared.lost.Lost.TheVariants.{Failed, Silent}
+use Rattle.rt_socket.specs.declared.wire.Lost.{Lost}
+use Rattle.rt_socket.specs.declared.wire.Lost.TheVariants.{Failed, Silent}
 use Rattle.rt_socket.specs.declared.patience.TheConstants.{ASKING_TICK, SILENT_TICKS}
 use Rattle.rt_socket.specs.declared.wire.Heard.{Heard}
 use Rattle.rt_socket.specs.declared.wire.Heard.TheVariants.{Text, Binary, Sign, Nothing, Ended}

@@ -12,8 +12,8 @@ use Rattle.tungstenite.specs.declared.message.Message.{Message}
 use Rattle.tungstenite.specs.declared.message.Message.TheVariants as message
 use Rattle.rt_socket.specs.declared.socket.SocketFault.{SocketFault}
 use Rattle.rt_socket.specs.declared.socket.SocketFault.TheVariants as fault
-use Rattle.rt_socket.specs.declared.lost.Lost.{Lost}
-use Rattle.rt_socket.specs.declared.lost.Lost.TheVariants.{Closed, ClosedWith, Failed, NoHandshake, Unreachable}
+use Rattle.rt_socket.specs.declared.wire.Lost.{Lost}
+use Rattle.rt_socket.specs.declared.wire.Lost.TheVariants.{Closed, ClosedWith, Failed, NoHandshake, Unreachable}
 use Rattle.rt_socket.specs.declared.wire.Flushed.{Flushed}
 use Rattle.rt_socket.specs.declared.wire.Flushed.TheVariants as flush
 use Rattle.rt_socket.specs.declared.wire.Heard.{Heard}

@@ -4,8 +4,8 @@ use Rattle.std.specs.Prelude.{IfErr, OnOk, Result, Ok, Err}
 use Rattle.rt_input.specs.declared.fault.ConsoleError.TheVariants as console
 use Rattle.rt_link.specs.declared.error.LinkFault.{LinkFault}
 use Rattle.rt_link.specs.declared.error.LinkFault.TheVariants as link
-use Rattle.rt_watch.specs.declared.fault.WatchFault.{WatchFault}
-use Rattle.rt_watch.specs.declared.fault.WatchFault.TheVariants.{NotConnected, System, Ended}
+use Rattle.rt_watch.specs.declared.effect.WatchFault.{WatchFault}
+use Rattle.rt_watch.specs.declared.effect.WatchFault.TheVariants.{NotConnected, System, Ended}
 use Rattle.rt_watch.specs.declared.lines.End.{End}
 use Rattle.rt_watch.specs.declared.lines.End.TheVariants as end
 use Rattle.rt_watch.specs.Faults.{IsNoWriteFault, TellsWrite, after_input, of_link}

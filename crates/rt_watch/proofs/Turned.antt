@@ -4,7 +4,7 @@ use Rattle.std.specs.Prelude.{IfOk, OnOk, Option, Result, Ok, Err}
 use Rattle.rt_watch.specs.Pacing.{next}
 use Rattle.rt_watch.specs.Queued.{Queue}
 use Rattle.rt_watch.specs.Rounds.{DoesLines, DoesWaiting, IsTurned, Rounds, WritesOut, WritesTurn, waited}
-use Rattle.rt_watch.specs.declared.fault.WatchFault.{WatchFault}
+use Rattle.rt_watch.specs.declared.effect.WatchFault.{WatchFault}
 use Rattle.rt_watch.specs.declared.terminal.WatchNext.{WatchNext}
 use Rattle.rt_watch.specs.declared.terminal.WatchNext.TheVariants.{GoOn}
 use Rattle.rt_watch.specs.declared.terminal.Terminal.{Terminal}

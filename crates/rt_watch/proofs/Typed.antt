@@ -21,7 +21,7 @@ use Rattle.rt_watch.specs.Asking.{Asks, AsksPush, HasNone, is_good_asked}
 use Rattle.rt_watch.specs.Watching.{DoesLine, PrintsDone, Pushes, is_good}
 use Rattle.rt_watch.specs.declared.effect.AskedLine.{AskedLine}
 use Rattle.rt_watch.specs.declared.effect.AskedLine.TheVariants as asked
-use Rattle.rt_watch.specs.declared.fault.WatchFault.{WatchFault}
+use Rattle.rt_watch.specs.declared.effect.WatchFault.{WatchFault}
 use Rattle.rt_watch.proofs.Faulting.{after_input_writes, of_link_writes, still}
 
 -- there is no push id

@@ -5,8 +5,8 @@ use Rattle.rt_link.specs.declared.error.LinkFault.{LinkFault}
 use Rattle.rt_link.specs.declared.error.LinkFault.TheVariants as link
 use Rattle.rt_watch.specs.declared.lines.End.{End}
 use Rattle.rt_watch.specs.declared.lines.End.TheVariants as end
-use Rattle.rt_watch.specs.declared.fault.WatchFault.{WatchFault}
-use Rattle.rt_watch.specs.declared.fault.WatchFault.TheVariants.{NotConnected, System, Ended}
+use Rattle.rt_watch.specs.declared.effect.WatchFault.{WatchFault}
+use Rattle.rt_watch.specs.declared.effect.WatchFault.TheVariants.{NotConnected, System, Ended}
 
 -- the number and the name of a fault
 abbrev pub fault_code : WatchFault → ℕ

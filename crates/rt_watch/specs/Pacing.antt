@@ -5,10 +5,10 @@ use Rattle.std.specs.IoError.{error_kind}
 use Rattle.std.specs.declared.io.ErrorKind.{ErrorKind}
 use Rattle.std.specs.declared.io.ErrorKind.TheVariants.{ConnectionRefused}
 use Rattle.std.specs.declared.time.Duration.{Duration}
-use Rattle.rt_link.specs.declared.connection.Turn.{Turn}
-use Rattle.rt_link.specs.declared.connection.Turn.TheVariants as turn
-use Rattle.rt_socket.specs.declared.lost.Lost.{Lost}
-use Rattle.rt_socket.specs.declared.lost.Lost.TheVariants as why
+use Rattle.rt_link.specs.declared.connection.LinkTurn.{LinkTurn}
+use Rattle.rt_link.specs.declared.connection.LinkTurn.TheVariants as turn
+use Rattle.rt_socket.specs.declared.wire.Lost.{Lost}
+use Rattle.rt_socket.specs.declared.wire.Lost.TheVariants as why
 use Rattle.rt_watch.specs.declared.watched.Left.{Left}
 use Rattle.rt_watch.specs.declared.watched.Left.TheVariants as left
 use Rattle.rt_watch.specs.declared.terminal.WatchNext.{WatchNext}
@@ -45,7 +45,7 @@ abbrev pub unopened : Lost → Left
 unopened e = if is_refused e then left.Unreached e else left.Lost e
 
 -- what a turn of the connection leaves: it waits so long at most, nothing listens there, or it is gone
-abbrev pub left_by : Turn → Left
+abbrev pub left_by : LinkTurn → Left
 left_by (turn.Idle most) = left.Waits (millis_of most)
 left_by turn.More = left.Waits 0
 left_by (turn.NotOpened e) = unopened e

@@ -7,13 +7,13 @@ use Rattle.rt_input.specs.declared.fault.ConsoleError.TheVariants.{NoMemory}
 use Rattle.rt_lines.specs.inside.Appending.{Appends}
 use Rattle.rt_connect.specs.Doing.{disconnected}
 use Rattle.rt_link.specs.Carrying.{Carried, PassesOver, Turns, is_open}
-use Rattle.rt_link.specs.declared.connection.Turn.{Turn}
+use Rattle.rt_link.specs.declared.connection.LinkTurn.{LinkTurn}
 use Rattle.rt_watch.specs.Faults.{after_end}
 use Rattle.rt_watch.specs.Pacing.{left_by, next}
 use Rattle.rt_watch.specs.Queued.{Queue}
 use Rattle.rt_watch.specs.Watching.{PrintsLines, PrintsNews, bad_with, numbered}
-use Rattle.rt_watch.specs.declared.fault.WatchFault.{WatchFault}
-use Rattle.rt_watch.specs.declared.fault.WatchFault.TheVariants.{NotConnected, Ended}
+use Rattle.rt_watch.specs.declared.effect.WatchFault.{WatchFault}
+use Rattle.rt_watch.specs.declared.effect.WatchFault.TheVariants.{NotConnected, Ended}
 use Rattle.rt_watch.specs.declared.terminal.WatchNext.{WatchNext}
 use Rattle.rt_watch.specs.declared.terminal.WatchNext.TheVariants.{GoOn}
 use Rattle.rt_watch.specs.declared.terminal.Terminal.{Terminal}
@@ -79,7 +79,7 @@ EndsBy (left.Unreached why) address e = (e ≡ NotConnected address why) ⊎ (e 
 EndsBy (left.Lost why) address e = e ≡ Ended NoMemory
 
 -- once a turn of the connection was made, it is printed what its messages say, and then noted what it leaves
-pub record NotesTurn {N : Type 0} (turn : Turn) (old new : Watched N) : Type 0 where
+pub record NotesTurn {N : Type 0} (turn : LinkTurn) (old new : Watched N) : Type 0 where
   pub news : List ℕ
   pub says : List ℕ
   pub told : PrintsNews old.connection.passed old.terminal.seats.items news new.terminal.seats.items
@@ -95,7 +95,7 @@ pub record NotesTurn {N : Type 0} (turn : Turn) (old new : Watched N) : Type 0 w
 
 -- so of a connection that stood so, and which a turn has carried on
 pub record TakesTurn {N : Type 0} (old new : Watched N) : Type 0 where
-  pub turn : Turn
+  pub turn : LinkTurn
   pub carried : Carried
   pub stands : Turns old.connection.standing turn carried.standing
   pub passed : PassesOver old.connection carried.passed

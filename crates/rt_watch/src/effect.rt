@@ -9,24 +9,29 @@ ghost use Rattle.rt_watch.specs.Asking.{is_done, is_good_asked, Asks, AsksPush, 
 ghost use Rattle.rt_watch.specs.Watching.{DoesAsked, DoesLine, DoesOrder, Pushes, TellsNews, Views};
 ghost use Rattle.rt_watch.specs.Watching.{passed_text, passed_texts, is_good};
 ghost use Rattle.rt_lines.specs.Typing.{typed_of_bytes};
-ghost use Rattle.rt_watch.specs.Faults.{IsNoWriteFault};
+ghost use Rattle.rt_watch.specs.Faults.{IsNoWriteFault, after_input, fault_code, fault_name, of_link};
 ghost use Rattle.rt_link.specs.Pushing.{is_client_fault};
+ghost use Rattle.rt_input.specs.declared.fault.ConsoleError.TheVariants.{NoMemory};
+ghost use Rattle.rt_watch.specs.declared.effect.WatchFault.TheVariants.{System, Ended};
 ghost use Rattle.rt_lines.specs.declared.order.Order.TheVariants as order;
 
-use crate::fault::WatchFault;
+use crate::lines::End;
 use rt_client::{Action, Call, Shared};
 use rt_connect::{Seats, obey, settle_all, write_why};
 use rt_input::ConsoleError;
 use rt_lines::{
     LineError, Order, Refusal, Typed, write_bad_line, write_id, write_refusal, write_view,
 };
-use rt_link::{Linked, Passed, Unpushed};
+use rt_link::{LinkFault, Linked, Lost, Passed, Unpushed};
 use rt_tree::{Key, Path, Tree, TreeError};
-use std::alloc::{AllocError, Global};
+use std::alloc::{AllocError, AllocFailed, Global};
+use std::fmt;
 use std::io::{self, ErrorKind};
+use std::net::SocketAddr;
 use std::random::RandomSource;
 use std::sync::Wait;
 use std::time::Clock;
+use thiserror::Error;
 
 // Whether an order is done. Messages come by themselves, so that one which reads them is not.
 fn is_done(order: &Order) -> bool
@@ -296,5 +301,107 @@ pub(crate) fn asked_of<R: Wait + Clock + RandomSource>(
         Err(LineError::Refused(why)) => Ok(AskedLine::Refused(why)),
         Err(LineError::Bad) => Ok(AskedLine::Bad),
         Err(LineError::NoMemory) => Err(WatchFault::Ended(ConsoleError::NoMemory)),
+    }
+}
+
+// ---- why a run ends early
+
+/// Why a run ends early, or does not begin.
+#[derive(Drop, Error)]
+pub enum WatchFault {
+    /// Nothing listens there, or the stream failed before the handshake was done.
+    #[error("{address}: {why}")]
+    NotConnected { address: SocketAddr, why: Lost },
+    /// The system refuses a thread, or what waiting needs.
+    #[error("the system refuses a thread, or what waiting needs: {0}")]
+    System(io::Error),
+    /// The reader or the writer failed, or memory is lacking.
+    #[error("{0}")]
+    Ended(ConsoleError),
+}
+
+impl fmt::Debug for WatchFault {
+    // In its words.
+    fn fmt<W: fmt::Write>(&self, f: &mut fmt::Formatter<W>) -> fmt::Result {
+        fmt::Display::fmt(self, f)
+    }
+}
+
+impl WatchFault {
+    /// The number of the fault, from 1 to 3. That of what ended a run is its own.
+    pub fn code(&self) -> u8
+        ensures { result ≡ fault_code self.now }
+    {
+        match self {
+            WatchFault::NotConnected { .. } => 1,
+            WatchFault::System(_) => 2,
+            WatchFault::Ended(_) => 3,
+        }
+    }
+
+    /// The name of the fault.
+    pub fn name(&self) -> &'static str
+        ensures { result.now ≡ fault_name self.now }
+    {
+        match self {
+            WatchFault::NotConnected { .. } => "NotConnected",
+            WatchFault::System(_) => "System",
+            WatchFault::Ended(_) => "Ended",
+        }
+    }
+}
+
+impl From<AllocError> for WatchFault {
+    ghost from_gives = { λ _ e. e ≡ Ended NoMemory };
+
+    fn from(_error: AllocError) -> WatchFault {
+        WatchFault::Ended(ConsoleError::NoMemory)
+    }
+}
+
+impl<T: Drop> From<AllocFailed<T>> for WatchFault {
+    ghost from_gives = { λ _ e. e ≡ Ended NoMemory };
+
+    fn from(_error: AllocFailed<T>) -> WatchFault {
+        WatchFault::Ended(ConsoleError::NoMemory)
+    }
+}
+
+impl From<io::Error> for WatchFault {
+    ghost from_gives = { λ why e. e ≡ System why };
+
+    fn from(why: io::Error) -> WatchFault {
+        WatchFault::System(why)
+    }
+}
+
+// A client that has lacked memory answers nothing any more, and nobody else tells it of a connection.
+impl From<LinkFault> for WatchFault {
+    ghost from_gives = { λ why e. e ≡ of_link why };
+
+    fn from(why: LinkFault) -> WatchFault {
+        match why {
+            LinkFault::Client(_) | LinkFault::NoMemory => WatchFault::Ended(ConsoleError::NoMemory),
+            LinkFault::System(why) => WatchFault::System(why),
+        }
+    }
+}
+
+impl From<ConsoleError> for WatchFault {
+    ghost from_gives = { λ why e. e ≡ Ended why };
+
+    fn from(why: ConsoleError) -> WatchFault {
+        WatchFault::Ended(why)
+    }
+}
+
+// What the end of an input makes of a run: it goes on, or ends early.
+pub(crate) fn after_input(end: End) -> Result<(), WatchFault>
+    ensures { result ≡ after_input end }
+{
+    match end {
+        End::Read => Ok(()),
+        End::Unread => Err(WatchFault::Ended(ConsoleError::ReadFault)),
+        End::NoMemory => Err(WatchFault::Ended(ConsoleError::NoMemory)),
     }
 }

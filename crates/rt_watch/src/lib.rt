@@ -12,10 +12,9 @@
 #![tactic(auto)]
 
 mod effect;
-mod fault;
 mod lines;
 mod terminal;
 mod watched;
 
-pub use fault::WatchFault;
+pub use effect::WatchFault;
 pub use watched::{Watching, watch};

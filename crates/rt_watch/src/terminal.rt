@@ -15,8 +15,7 @@ ghost use Rattle.rt_watch.specs.Watching.{is_good, is_good_line, numbered};
 ghost use Rattle.rt_watch.specs.Pacing.{next};
 ghost use Rattle.std.specs.Io.KnownBytes as Io;
 
-use crate::effect::{asked_of, do_line, tell_news, write_lost};
-use crate::fault::{WatchFault, after_input};
+use crate::effect::{WatchFault, after_input, asked_of, do_line, tell_news, write_lost};
 use crate::lines::{End, Lines, Queue, TakenLine};
 use rt_connect::Seats;
 use rt_input::{Drain, Log, write_printed};

@@ -10,14 +10,14 @@ ghost use Rattle.rt_watch.specs.Rounds.{DoesWaiting, EndsBy, IsNoted, IsTurned, 
 ghost use Rattle.rt_watch.specs.Rounds.{WritesTurn, is_carried, lost_by, said_lost, waited};
 ghost use Rattle.rt_watch.specs.Watching.{PrintsNews};
 
-use crate::fault::WatchFault;
+use crate::effect::WatchFault;
 use crate::lines::{Lines, Queue, feed};
 use crate::terminal::{Terminal, WatchNext, next_of};
 use mio::net::TcpStream;
 use rt_client::{Client, Seat};
 use rt_connect::open_seats;
 use rt_input::{ConsoleError, Drain, Log, Source};
-use rt_link::{Connection, Link, LinkFault, Linked, Lost, Turn, link_crossing_law};
+use rt_link::{Connection, Link, LinkFault, LinkTurn, Linked, Lost, link_crossing_law};
 use rt_socket::wait_after;
 use rt_world::Limits;
 use std::alloc::{AllocError, Global};
@@ -133,14 +133,14 @@ fn unopened(why: Lost) -> Left
 }
 
 // What a turn of the connection leaves.
-fn left_by(turn: Turn) -> Left
+fn left_by(turn: LinkTurn) -> Left
     ensures { result ≡ left_by turn }
 {
     match turn {
-        Turn::Idle(most) => Left::Waits(millis_of(most)),
-        Turn::More => Left::Waits(0),
-        Turn::NotOpened(why) => unopened(why),
-        Turn::Ended(why) => Left::Lost(why),
+        LinkTurn::Idle(most) => Left::Waits(millis_of(most)),
+        LinkTurn::More => Left::Waits(0),
+        LinkTurn::NotOpened(why) => unopened(why),
+        LinkTurn::Ended(why) => Left::Lost(why),
     }
 }
 
@@ -260,7 +260,7 @@ impl<N: RandomSource + Drop> Watched<N> {
         &mut self,
         rt: &R,
         linked: &Linked,
-        turn: Turn,
+        turn: LinkTurn,
         log: &mut L,
     ) -> Result<(), WatchFault>
         ensures fault { IfErr result IsNoWriteFault }
@@ -279,7 +279,7 @@ impl<N: RandomSource + Drop> Watched<N> {
 
     // Notes what a turn leaves.
     #[tactic(auto, using(crate::proofs::Faulting::faults))]
-    fn leave<L: Log>(&mut self, turn: Turn, log: &mut L) -> Result<(), WatchFault>
+    fn leave<L: Log>(&mut self, turn: LinkTurn, log: &mut L) -> Result<(), WatchFault>
         ensures fault { IfErr result IsNoWriteFault }
         ensures noted { OnOk result ((text : List ℕ)
             × Appends self.old.terminal.printed self.new.terminal.printed text

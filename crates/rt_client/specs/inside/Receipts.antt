@@ -2,8 +2,8 @@
 use Rattle.std.specs.Prelude.{ℕ, Bool, true, false, List, Option}
 use Rattle.std.specs.Option.{option_map}
 use Rattle.rt_world.specs.declared.report.Note.{Note}
-use Rattle.rt_mail.specs.declared.receipt.Receipt.{Receipt}
-use Rattle.rt_mail.specs.declared.receipt.Receipt.TheVariants.{Listened, Unlistened, Wrote, Asked}
+use Rattle.rt_mail.specs.declared.item.Receipt.{Receipt}
+use Rattle.rt_mail.specs.declared.item.Receipt.TheVariants.{Listened, Unlistened, Wrote, Asked}
 use Rattle.rt_mail.specs.Lanes.{Line, signed_lane}
 use Rattle.rt_world.specs.declared.step.Call.{Call}
 use Rattle.rt_world.specs.declared.step.Call.TheVariants as call

@@ -11,7 +11,7 @@ use Rattle.rt_wire.specs.contracts.server.ServerMessage as server
 use Rattle.rt_world.specs.contracts.step.Call as call
 use Rattle.rt_mail.specs.contracts.item.Item as item
 use Rattle.rt_mail.specs.contracts.mirror.Mirror as mirror
-use Rattle.rt_mail.specs.contracts.snapshots.Snapshots as snapshots
+use Rattle.rt_mail.specs.contracts.mirror.Snapshots as snapshots
 use Rattle.rt_client.specs.contracts.seat.Seat as seat
 use Rattle.rt_client.specs.contracts.client.Client as client
 

@@ -12,7 +12,7 @@ use Rattle.rt_world.specs.Answers.{step, world_after}
 use Rattle.rt_world.specs.laws.Script.{fresh, num}
 use Rattle.rt_mail.specs.declared.item.Item.{Item}
 use Rattle.rt_mail.specs.declared.item.Item.TheVariants as item
-use Rattle.rt_mail.specs.declared.receipt.Receipt.TheVariants.{Listened, Wrote}
+use Rattle.rt_mail.specs.declared.item.Receipt.TheVariants.{Listened, Wrote}
 use Rattle.rt_mail.specs.Mailbox.{Known, nothing_known, known_of}
 use Rattle.rt_mail.specs.Snapshots.{after_items}
 use Rattle.rt_mail.specs.Snapshots.{Known as Shown}

@@ -35,7 +35,7 @@ use Rattle.rt_http.specs.declared.ask.Ask.{Ask}
 use Rattle.rt_http.specs.declared.ask.Asked.{Asked}
 use Rattle.rt_http.specs.declared.fault.Fault.{Fault}
 use Rattle.rt_http.specs.declared.fault.Fault.TheVariants.{Host, NoAnswer, NoMemory, Page, TooLarge}
-use Rattle.rt_http.specs.declared.message.Wanted.{Wanted}
+use Rattle.rt_http.specs.declared.answer.Wanted.{Wanted}
 use Rattle.rt_http.specs.declared.answer.Status.TheVariants.{Okay}
 use Rattle.rt_emulate.specs.declared.calls.Question.{Question}
 use Rattle.rt_emulate.specs.declared.edge.Keys.{Keys}

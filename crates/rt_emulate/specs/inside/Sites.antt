@@ -9,7 +9,7 @@ use Rattle.std.specs.Str.{bytes_eq}
 use Rattle.rt_files.specs.Names.{file_of}
 use Rattle.rt_http.specs.declared.fault.Fault.{Fault}
 use Rattle.rt_http.specs.declared.fault.Fault.TheVariants as fault
-use Rattle.rt_http.specs.declared.limits.TheConstants.{MAX_FILE_BYTES}
+use Rattle.rt_http.specs.declared.fault.TheConstants.{MAX_FILE_BYTES}
 use Rattle.rt_http.specs.declared.head.Method.{Method}
 use Rattle.rt_http.specs.declared.head.Method.TheVariants.{Get, Head, Put, Patch, Post, Delete, Options, Other}
 use Rattle.rt_emulate.specs.declared.site.Course.{Course}

@@ -13,8 +13,8 @@ use Rattle.tungstenite.specs.declared.message.Message.{Message}
 use Rattle.tungstenite.specs.declared.message.Message.TheVariants.{Text, Binary, Ping, Pong, Close}
 use Rattle.rt_hub.specs.declared.door.Flushed.{Flushed}
 use Rattle.rt_hub.specs.declared.door.Flushed.TheVariants as flush
-use Rattle.rt_hub.specs.declared.door.Heard.{Heard}
-use Rattle.rt_hub.specs.declared.door.Heard.TheVariants as heard
+use Rattle.rt_hub.specs.declared.door.DoorRead.{DoorRead}
+use Rattle.rt_hub.specs.declared.door.DoorRead.TheVariants as heard
 use Rattle.rt_wire.specs.Crowds.{is_crowded}
 use Rattle.rt_emulate.specs.declared.socket.Broken.{Broken}
 use Rattle.rt_emulate.specs.declared.socket.Broken.TheVariants.{Crowded}
@@ -51,7 +51,7 @@ unsent_by flush.Failed unsent = unsent
 -- ---- what is read of it
 
 -- a message is a text, or none
-abbrev pub heard_of : Message → Heard
+abbrev pub heard_of : Message → DoorRead
 heard_of (Text words) = heard.Text
 heard_of (Binary bytes) = heard.Other
 heard_of (Ping bytes) = heard.Other
@@ -70,12 +70,12 @@ kept (Pong bytes) s = record s { was_binary = false }
 kept (Close frame) s = record s { was_binary = false; closed = Some (code_in frame) }
 
 -- what is kept of a message that was read, or why none was
-abbrev pub IsReadAs : Result Message Error → Socket → Socket → Result Heard Broken → Type 0
+abbrev pub IsReadAs : Result Message Error → Socket → Socket → Result DoorRead Broken → Type 0
 IsReadAs (Ok m) old new r = (r ≡ Ok (heard_of m)) × (new ≡ record (kept m old) { socket = new.socket })
 IsReadAs (Err e) old new r = (r ≡ Err (broken_of e)) × (new ≡ record old { socket = new.socket })
 
 -- a message is read, and what it says is kept
-abbrev pub ReadsOne : Socket → Socket → Result Heard Broken → Type 0
+abbrev pub ReadsOne : Socket → Socket → Result DoorRead Broken → Type 0
 ReadsOne old new r =
     (given : Result Message Error) × Reads (λ _. None) old.socket new.socket given × IsReadAs given old new r
 
@@ -84,7 +84,7 @@ abbrev pub passes : Broken → Bool
 passes why = is_some (of_stream why) && (not (would_block why) && not (is_spent why))
 
 -- it is read once, and where that is why the read failed, perhaps once more
-abbrev pub ReadsOn : Socket → Socket → Result Heard Broken → Type 0
+abbrev pub ReadsOn : Socket → Socket → Result DoorRead Broken → Type 0
 ReadsOn old new r =
     ReadsOne old new r
     ⊎ ((why : Broken) × (mid again : Socket) × ReadsOne old mid (Err why) × (passes why ≡ true)
@@ -96,27 +96,27 @@ ReadsOn old new r =
 abbrev pub is_nothing : Broken → Bool
 is_nothing why = is_spent why || would_block why
 
-abbrev pub said_of : Broken → Heard
+abbrev pub said_of : Broken → DoorRead
 said_of why = if is_nothing why then heard.Nothing else heard.Ended
 
 abbrev pub broken_by : Broken → Socket → Socket
 broken_by why s = record s { is_spent = is_spent why; why = if is_nothing why then s.why else Some why }
 
 -- a text that holds more than a message may is as a read that failed
-abbrev pub holds_too_much : Heard → List ℕ → Bool
+abbrev pub holds_too_much : DoorRead → List ℕ → Bool
 holds_too_much heard.Text text = is_crowded text
 holds_too_much heard.Other text = false
 holds_too_much heard.Nothing text = false
 holds_too_much heard.Ended text = false
 
-abbrev pub judged : Result Heard Broken → List ℕ → Result Heard Broken
+abbrev pub judged : Result DoorRead Broken → List ℕ → Result DoorRead Broken
 judged (Ok heard) text = if holds_too_much heard text then Err Crowded else Ok heard
 judged (Err why) text = Err why
 
 -- what was read is what is said
-abbrev pub IsSaid : Result Heard Broken → Socket → Heard → Socket → Type 0
+abbrev pub IsSaid : Result DoorRead Broken → Socket → DoorRead → Socket → Type 0
 IsSaid (Ok heard) mid said new = (said ≡ heard) × (new ≡ record mid { said = heard })
 IsSaid (Err why) mid said new = (said ≡ said_of why) × (new ≡ record (broken_by why mid) { said = said_of why })
 
-abbrev pub Hears : Socket → Socket → Heard → Type 0
-Hears old new said = (mid : Socket) × (r : Result Heard Broken) × ReadsOn old mid r × IsSaid (judged r mid.text) mid said new
+abbrev pub Hears : Socket → Socket → DoorRead → Type 0
+Hears old new said = (mid : Socket) × (r : Result DoorRead Broken) × ReadsOn old mid r × IsSaid (judged r mid.text) mid said new

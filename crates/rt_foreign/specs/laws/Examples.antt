@@ -11,7 +11,7 @@ use Rattle.rt_wire.specs.declared.request.Action.TheVariants.{Put}
 use Rattle.rt_lines.specs.declared.error.LineError.TheVariants.{Refused}
 use Rattle.rt_lines.specs.declared.error.Refusal.TheVariants.{Wire}
 use Rattle.rt_mail.specs.declared.item.Item.TheVariants as told
-use Rattle.rt_mail.specs.declared.receipt.Receipt.TheVariants.{Wrote}
+use Rattle.rt_mail.specs.declared.item.Receipt.TheVariants.{Wrote}
 use Rattle.rt_foreign.specs.Items.{item_text}
 use Rattle.rt_foreign.specs.Reading.{filtered_in, listen_words, query_in}
 

@@ -3,19 +3,19 @@ use Rattle.std.specs.Prelude.{ℕ, List, map, option_map}
 use Rattle.serde_json.specs.Data.{Data, Members}
 use Rattle.serde_json.specs.View.{view, members_view}
 use Rattle.serde_json.specs.declared.value.Value.{Value}
-use Rattle.rt_lines.specs.declared.call.Call.{Call as CodeCall}
-use Rattle.rt_lines.specs.declared.call.Call.TheVariants as call_code
+use Rattle.rt_lines.specs.declared.call.QueryCall.{QueryCall as CodeCall}
+use Rattle.rt_lines.specs.declared.call.QueryCall.TheVariants as call_code
 use Rattle.rt_lines.specs.declared.form.LineForm.{LineForm as CodeForm}
 use Rattle.rt_lines.specs.declared.form.LineForm.TheVariants as form_code
 use Rattle.rt_lines.specs.declared.form.PartWords.{PartWords}
 use Rattle.rt_lines.specs.declared.form.Written.{Written as CodeWritten}
 use Rattle.rt_lines.specs.declared.form.Written.TheVariants as written_code
-use Rattle.rt_lines.specs.Calls.{Call}
+use Rattle.rt_lines.specs.Calls.{QueryCall}
 use Rattle.rt_lines.specs.Calls as call
 use Rattle.rt_lines.specs.Forms.{LineForm, Written}
 use Rattle.rt_lines.specs.Forms as form
 
-abbrev pub as_call : CodeCall → Call
+abbrev pub as_call : CodeCall → QueryCall
 as_call call_code.OrderByKey = call.OrderByKey
 as_call call_code.OrderByValue = call.OrderByValue
 as_call (call_code.OrderByChild path) = call.OrderByChild path.now
@@ -24,7 +24,7 @@ as_call (call_code.LimitToLast n) = call.LimitToLast n
 as_call (call_code.Bound bound value key) =
     call.Bound bound (view value.now) (option_map (λ k. k.now) key)
 
-abbrev pub as_calls : List CodeCall → List Call
+abbrev pub as_calls : List CodeCall → List QueryCall
 as_calls calls = map as_call calls
 
 abbrev pub as_written : CodeWritten → Written

@@ -6,8 +6,8 @@ use Rattle.rt_query.specs.Queries.{plain}
 use Rattle.rt_view.specs.declared.change.Change.TheVariants.{Added}
 use Rattle.rt_mail.specs.declared.item.Item.{Item}
 use Rattle.rt_mail.specs.declared.item.Item.TheVariants as item
-use Rattle.rt_mail.specs.declared.receipt.Receipt.{Receipt}
-use Rattle.rt_mail.specs.declared.receipt.Receipt.TheVariants.{Listened, Unlistened}
+use Rattle.rt_mail.specs.declared.item.Receipt.{Receipt}
+use Rattle.rt_mail.specs.declared.item.Receipt.TheVariants.{Listened, Unlistened}
 use Rattle.rt_mail.specs.Mailbox.{Known, nothing_known, known_of}
 use Rattle.rt_mail.specs.Runs.{Call, Queue, Flush, Sign, Next, Mail, new_mail, after_all}
 

@@ -6,7 +6,7 @@ use Rattle.std.specs.Option.{option_map, option_map_or}
 use Rattle.rt_view.specs.Changes.{replay}
 use Rattle.rt_mail.specs.declared.item.Item.{Item}
 use Rattle.rt_mail.specs.declared.item.Item.TheVariants as item
-use Rattle.rt_mail.specs.declared.receipt.Receipt.TheVariants.{Listened, Unlistened, Wrote, Asked}
+use Rattle.rt_mail.specs.declared.item.Receipt.TheVariants.{Listened, Unlistened, Wrote, Asked}
 use Rattle.rt_mail.specs.Mailbox.{Children, nothing_known, known_of, children_of}
 
 -- ---- one listener

@@ -6,7 +6,7 @@ use Rattle.rt_query.specs.Queries.{plain}
 use Rattle.rt_view.specs.declared.change.Change.TheVariants.{Value}
 use Rattle.rt_mail.specs.declared.item.Item.{Item}
 use Rattle.rt_mail.specs.declared.item.Item.TheVariants as item
-use Rattle.rt_mail.specs.declared.receipt.Receipt.TheVariants.{Listened}
+use Rattle.rt_mail.specs.declared.item.Receipt.TheVariants.{Listened}
 use Rattle.rt_mail.specs.Snapshots.{Known, after_items}
 
 -- a listener of the root, and what it is told to show

@@ -9,7 +9,7 @@ use Rattle.rt_tree.specs.Assignments.{Assignment, do_overlap}
 use Rattle.rt_peer.specs.Peers.{Listen, is_at}
 use Rattle.rt_peer.specs.Pushes.{written}
 use Rattle.rt_peer.specs.declared.listens.Owner.{Owner}
-use Rattle.rt_peer.specs.declared.listens.Spot.{Spot}
+use Rattle.rt_peer.specs.declared.listens.ListenKey.{ListenKey}
 use Rattle.rt_peer.specs.declared.write.Write.{Write}
 use Rattle.rt_peer.specs.inside.Spots.{overlaps, owner_cmp, owner_of}
 
@@ -51,12 +51,12 @@ AreNoted test n old new = (o : Owner) → numbers_of new o ≡ numbers_of old o 
 
 -- a number was added for the spot's owner, or none was, which is so only where the path of its entry doesn't overlap
 -- the spot's
-abbrev pub MeetsSo : Path → ℕ → Met → Met → Spot → Type 0
+abbrev pub MeetsSo : Path → ℕ → Met → Met → ListenKey → Type 0
 MeetsSo p n old new s = (b : Bool) × ((overlaps p s ≡ true → b ≡ true)
     × (numbers_of new s.owner ≡ numbers_of old s.owner ++ (if b then n ∷ [] else [])))
 
 -- of entries, those of the numbers of each spot's owner are the same over its path as some
-abbrev pub AreMet : List Assignment → List Assignment → Met → List Spot → Type 0
+abbrev pub AreMet : List Assignment → List Assignment → Met → List ListenKey → Type 0
 AreMet es some met spots = All (λ s. AreSameOver s.path (picked es (numbers_of met s.owner)) some) spots
 
 -- and of each listen's owner as all

@@ -13,14 +13,14 @@ use Rattle.rt_tree.specs.Assignments.{Assignment, do_overlap, is_at_or_above}
 use Rattle.rt_query.specs.Queries.{Query}
 use Rattle.rt_peer.specs.Peers.{Listen}
 use Rattle.rt_peer.specs.declared.listens.Owner.{Owner}
-use Rattle.rt_peer.specs.declared.listens.Spot.{Spot}
+use Rattle.rt_peer.specs.declared.listens.ListenKey.{ListenKey}
 
 -- by connection, and then by tag
 abbrev pub owner_cmp : Owner → Owner → Ordering
 owner_cmp = then_cmp (on (λ o. o.connection) nat_cmp) (on (λ o. o.tag) nat_cmp)
 
 -- by path, and then by owner
-abbrev pub spot_cmp : Spot → Spot → Ordering
+abbrev pub spot_cmp : ListenKey → ListenKey → Ordering
 spot_cmp = then_cmp (on (λ s. s.path) path_cmp) (on (λ s. s.owner) owner_cmp)
 
 pub owners_total : IsTotalOrder owner_cmp
@@ -34,7 +34,7 @@ abbrev pub owner_of : Listen → Owner
 owner_of l = record { connection = l.connection; tag = l.tag }
 
 -- where it stands
-abbrev pub spot_of : Listen → Spot
+abbrev pub spot_of : Listen → ListenKey
 spot_of l = record { path = l.query.path; owner = owner_of l }
 
 -- the listen of an owner and its query
@@ -54,35 +54,35 @@ abbrev pub has_owner : List Owner → Owner → Bool
 has_owner os o = list_any (λ p. is_eq (owner_cmp o p)) os
 
 -- whether the spot is among these
-abbrev pub has_spot : List Spot → Spot → Bool
+abbrev pub has_spot : List ListenKey → ListenKey → Bool
 has_spot spots s = list_any (λ t. is_eq (spot_cmp s t)) spots
 
 -- a listen's spot is among these
-abbrev pub Stand : List Spot → Listen → Type 0
+abbrev pub Stand : List ListenKey → Listen → Type 0
 Stand spots l = has_spot spots (spot_of l) ≡ true
 
 -- each listen's spot is among these; what else is among them leads to nothing
-abbrev pub AllStand : List Spot → List Listen → Type 0
+abbrev pub AllStand : List ListenKey → List Listen → Type 0
 AllStand spots listens = All (Stand spots) listens
 
 -- whether a spot is at the path, or with what is below, at or below it
-abbrev pub is_in : Path → Bool → Spot → Bool
+abbrev pub is_in : Path → Bool → ListenKey → Bool
 is_in p below s = if below then is_at_or_above p s.path else path_eq p s.path
 
 -- whether a spot is above the path
-abbrev pub is_above : Path → Spot → Bool
+abbrev pub is_above : Path → ListenKey → Bool
 is_above p s = is_at_or_above s.path p && nat_lt (length s.path) (length p)
 
 -- whether the path overlaps the spot's
-abbrev pub overlaps : Path → Spot → Bool
+abbrev pub overlaps : Path → ListenKey → Bool
 overlaps p s = do_overlap p s.path
 
 -- whether an entry's path does
-abbrev pub is_concerned : List Assignment → Spot → Bool
+abbrev pub is_concerned : List Assignment → ListenKey → Bool
 is_concerned entries s = list_any (λ a. overlaps a.0 s) entries
 
 -- whose spots pass a test is among these
-abbrev pub AreFound : (Spot → Bool) → List Spot → List Owner → Type 0
+abbrev pub AreFound : (ListenKey → Bool) → List ListenKey → List Owner → Type 0
 AreFound test spots found = All (λ s. test s ≡ true → has_owner found s.owner ≡ true) spots
 
 -- who was among the first is among the second

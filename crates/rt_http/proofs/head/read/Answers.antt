@@ -2,7 +2,7 @@ use Rattle.std.proofs.Common.{rules, ◌≡◌, Some, Ok, Err, take}
 use Rattle.httparse.specs.Borrowed.{HoldsSomeRequest}
 use Rattle.httparse.specs.Grammar.{HasNoRequest}
 use Rattle.httparse.specs.declared.Status.TheVariants.{Complete, Partial}
-use Rattle.rt_http.specs.declared.limits.TheConstants.{MAX_HEAD_BYTES}
+use Rattle.rt_http.specs.declared.fault.TheConstants.{MAX_HEAD_BYTES}
 use Rattle.rt_http.proofs.Heads.{found_err, found_ok, full_head, open_head}
 use Rattle.rt_http.proofs.Outcomes.{complete, partial}
 use Rattle.rt_http.proofs.head.read.Goals as goal

@@ -3,7 +3,7 @@ use Rattle.std.specs.List.{All, filter}
 use Rattle.std.specs.List.Sorted.{IsStrictlySortedBy}
 use Rattle.std.proofs.lemmas.List.Elements.{All-tail}
 use Rattle.std.proofs.lemmas.Map.Keys.{sorted_tail}
-use Rattle.rt_peer.specs.declared.listens.Spot.{Spot}
+use Rattle.rt_peer.specs.declared.listens.ListenKey.{ListenKey}
 use Rattle.rt_peer.specs.inside.Spots.{spot_cmp}
 use Rattle.rt_peer.proofs.SpotLaws.{IsAdded, NotBefore, added_kept, begun, begun_behind, begun_rising, finds_all, finds_more, finds_no_more, from, kept_itself, kept_through}
 use Rattle.rt_peer.proofs.listens.gather_in.Goals as goal
@@ -15,7 +15,7 @@ loop-spot-init c =
     let left = c.into_iter-spot-iterator.result in
     let is : left ≡ filter (from p) ks =
     c.into_iter-spot-iterator.ensures.into_iter_gives ∙ c.range-spot-items.ensures.between tt
-    ∙ ap (λ (s : Spot). filter (λ q. is_le (spot_cmp s q) && not false) ks) c.in_ok-from.ensures in
+    ∙ ap (λ (s : ListenKey). filter (λ q. is_le (spot_cmp s q) && not false) ks) c.in_ok-from.ensures in
     record {
       kept = kept_itself c.args.found.now.keys;
       rising = begun_rising p ks left is c.range-spot-items.ensures.ordered;

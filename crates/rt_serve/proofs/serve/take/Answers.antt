@@ -2,7 +2,7 @@ use Rattle.std.proofs.Common.{[], Ok, true, refl, sym, ap, ◌∙◌}
 use Rattle.rt_wire.specs.Client.{client_message}
 use Rattle.rt_input.specs.Counted.{known_output}
 use Rattle.rt_serve.specs.Answers.{own}
-use Rattle.rt_serve.specs.declared.error.ServeError.{ServeError}
+use Rattle.rt_serve.specs.declared.serve.ServeError.{ServeError}
 use Rattle.rt_serve.proofs.Answers.{sent_in, sent_on}
 use Rattle.rt_serve.proofs.serve.take.Goals as goal
 

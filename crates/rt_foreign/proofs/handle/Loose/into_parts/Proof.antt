@@ -18,7 +18,7 @@ use denote.Steps.{nothing, heard}
 use denote.Triple.Walked.{Stays, stay_dropped, walk_of, Goes-dropped}
 use Rattle.std.specs.Prelude.{is_some}
 use Rattle.std.proofs.raw_atomic.Walks.{proved_at, leaves}
-use Rattle.rt_foreign.specs.declared.held.Held.{Held}
+use Rattle.rt_foreign.specs.declared.handle.HandleContent.{HandleContent}
 use Rattle.rt_foreign.proofs.Handles.{both, both_good, Loose, some_of, loose_out, parts_in}
 use Rattle.rt_foreign.specs.contracts.handle.Loose.into_parts as F
 use Rattle.rt_foreign.proofs.handle.Loose.into_parts.Statement.{statement}
@@ -31,7 +31,7 @@ into_parts_spec 𝓤 𝓛 𝓜 𝓡 wired =
     proved_at 𝓛 F.ended hs c 𝓜 𝓡 (Goes-dropped 𝓛 0 (plain (λ _. Loose)) yes (λ κs x f. refl), tt) F.Key.name fn (code.unfolded 𝓤 H 𝓜 𝓡 wired) (λ z are.
     let d = z.0.3.0 in let a = d.alloc in let Post : Val → SProp 𝓤 = (walk_of 𝓛 F.ended hs c).post z in let Run : List Val → SProp 𝓤 = λ ws. WpFn 𝓤 H 𝓣.C 𝓣.Λ fn ws Post in
     qed 𝓛 ((‵ ftrue ⊛ ‵ (owns (types_at F.ended.signature.params z.0.0) z.0.3 z.0.4)) ∷ raw (fact 𝓤 (is_some d.value ≡ true)) ∷ []) ∵ move ! (1 ∷ []) $ heard ! (is_some d.value ≡ true) (λ req.
-    let s : (x : Held) × (d.value ≡ Some x) = some_of d.value req in let x : Held = s.0 in
+    let s : (x : HandleContent) × (d.value ≡ Some x) = some_of d.value req in let x : HandleContent = s.0 in
     split ! $ move ! (1 ∷ []) $ fsplit ! $ loose_out ! d x s.1 z.0.4.0 (λ b o h e ws fits.
     let w : Val = both (vptr b o) h in let typed = both_good b o h fits in
     suffices ! (Run (w ∷ [])) (subst (λ (us : List Val). ent 𝓤 (Run (w ∷ [])) (Run us)) (sym (λ i. ws i ++ [])) (id⊢ 𝓤 (Run (w ∷ [])))) $

@@ -1,6 +1,6 @@
 use Rattle.std.proofs.Common.{rules, ◌≡◌, ◌≤◌, Err, true, false, length, subst, sym, take}
 use Rattle.rt_http.specs.Readings.{IsHead}
-use Rattle.rt_http.specs.declared.limits.TheConstants.{MAX_HEAD_BYTES}
+use Rattle.rt_http.specs.declared.fault.TheConstants.{MAX_HEAD_BYTES}
 use Rattle.rt_http.proofs.Heads.{at_front, head_fits, refused_at}
 use Rattle.rt_http.proofs.request.Incoming.begin.Goals as goal
 

@@ -1,7 +1,7 @@
 use Rattle.std.proofs.Common.{◌≡◌, ◌+◌, refl, ap, sym, subst, ◌∙◌, arith, rules}
 use Rattle.std.specs.BTreeMap.{insert_entry}
 use Rattle.rt_peer.specs.Peers.{in_place, runs_before}
-use Rattle.rt_peer.specs.declared.actions.Place.{Place}
+use Rattle.rt_peer.specs.declared.actions.ActionKey.{ActionKey}
 use Rattle.rt_peer.specs.inside.EntrySpots.{AllSpotted, HasSpots}
 use Rattle.rt_peer.specs.inside.Placed.{deferred_of, deferreds_of, place_cmp, AreByPlace, AreKept}
 use Rattle.rt_peer.proofs.CountLaws.{put_back}
@@ -33,7 +33,7 @@ invariant_of-self-in_err-raise c = (
 
 pub invariant_of-self-in-Ok : goal.invariant_of-self-in-Ok
 invariant_of-self-in-Ok c =
-    let p : Place = record { connection = c.args.connection; id = c.args.id; arrival = c.self.inside.arrived } in
+    let p : ActionKey = record { connection = c.args.connection; id = c.args.id; arrival = c.self.inside.arrived } in
     let es = c.self.inside.by_place.entries in
     let next : c.in-Some.arrived ≡ c.self.inside.arrived + 1 = search rules in
     let put : c.insert.new.self.entries ≡ insert_entry place_cmp es p c.args.entries = c.in-Ok.ensures.entries in (
@@ -61,7 +61,7 @@ invariant_of-self-in-Err c =
 
 pub returns-in-Ok : goal.returns-in-Ok
 returns-in-Ok c =
-    let p : Place = record { connection = c.args.connection; id = c.args.id; arrival = c.self.inside.arrived } in
+    let p : ActionKey = record { connection = c.args.connection; id = c.args.id; arrival = c.self.inside.arrived } in
     ap deferreds_of c.in-Ok.ensures.entries
     ∙ put_behind p c.args.entries c.self.inside.by_place.entries c.self.invariant.0.order c.self.invariant.0.came
     ∙ ap (λ es. in_place runs_before (deferred_of (p, c.args.entries)) (deferreds_of es)) c.self.view_is

@@ -1,7 +1,0 @@
-use Rattle.std.proofs.Common.{drop}
-use Rattle.rt_hub.proofs.Done.{ArePut, puts}
-use Rattle.rt_hub.proofs.queue.Waiting.put_each.Given as goal
-
-abbrev pub invariant-loop-one : goal.invariant-loop-one
-invariant-loop-one l =
-    ArePut puts l.initial.self l.sent l.self (drop l.one-index l.sent)

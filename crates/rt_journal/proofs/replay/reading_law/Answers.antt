@@ -1,5 +1,0 @@
-use Rattle.rt_journal.proofs.ReadBack.{reads_back}
-use Rattle.rt_journal.proofs.replay.reading_law.Goals as goal
-
-pub returns : goal.returns
-returns c = reads_back

@@ -1,6 +1,0 @@
-use Rattle.std.proofs.Common.{[]}
-use Rattle.rt_peer.specs.inside.EntrySpots.{AreOthersKept}
-use Rattle.rt_peer.proofs.entry_spots.take_spots.Given as goal
-
-abbrev pub invariant-loop-entry : goal.invariant-loop-entry
-invariant-loop-entry l = AreOthersKept l.place [] l.initial.spots.keys l.spots.keys

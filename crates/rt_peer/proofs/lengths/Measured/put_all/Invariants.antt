@@ -1,6 +1,0 @@
-use Rattle.std.proofs.Common.{◌≡◌, drop}
-use Rattle.rt_peer.specs.Pushes.{written}
-use Rattle.rt_peer.proofs.lengths.Measured.put_all.Given as goal
-
-abbrev pub invariant-loop-path : goal.invariant-loop-path
-invariant-loop-path l = written l.self (drop l.path-index l.entries) ≡ written l.initial.self l.entries
