@@ -2,7 +2,7 @@
 ghost use Rattle.std.specs.Prelude.{◌≡◌, ◌<◌, ◌≤◌, ◌⊎◌, IfOk, IfErr, length, ◌+◌, OnOk, ◌≢◌, ◌||◌, Ok, None};
 ghost use Rattle.std.specs.Prelude.{true, IfSome};
 ghost use Rattle.std.specs.Sync.Mutex.{mutex_guard_value};
-ghost use Rattle.rt_client.specs.Opened.{seats_from};
+ghost use Rattle.rt_client.specs.Opened.{new_locked, seats_from};
 ghost use Rattle.rt_client.specs.declared.error.ClientError.TheVariants.{TooManySeats, NoMemory, Failed};
 ghost use Rattle.rt_tree.specs.PathTree.{null};
 ghost use Rattle.rt_wire.specs.declared.request.Action.TheVariants.{Put, Merge};
@@ -25,6 +25,7 @@ use rt_wire::{Action, ServerMessage};
 use rt_world::{Call, ClientMessage, Limits, Outcome};
 use std::alloc::Global;
 use std::marker::Model;
+use std::snapshot::Snapshot;
 use std::sync::atomic::{AtomicU64, Ordering};
 use std::sync::{Condvar, Mutex, MutexGuard, Wait};
 
@@ -32,6 +33,8 @@ use std::sync::{Condvar, Mutex, MutexGuard, Wait};
 /// locks it by itself lets go by [`Client::notify`] where others may wait for what was done.
 pub struct Client {
     pub shared: Mutex<Shared>,
+    /// What the lock kept first, which clauses alone read: it takes no memory.
+    pub first: Snapshot<Shared>,
     // How often somebody was to be woken, which changes while the lock is held alone.
     pub(crate) notices: AtomicU64,
     pub(crate) news: Condvar,
@@ -41,6 +44,7 @@ impl Drop for Client {
     fn drop(self) {
         let Client {
             shared: _,
+            first: _,
             notices: _,
             news: _,
         } = self;
@@ -48,9 +52,23 @@ impl Drop for Client {
 }
 
 impl Client {
+    // A client whose lock keeps that value first.
+    fn around(shared: Shared) -> Client
+        ensures { result.first.value ≡ shared }
+    {
+        let first = Snapshot::of(&shared);
+        Client {
+            shared: Mutex::new(shared),
+            first,
+            notices: AtomicU64::new(0),
+            news: Condvar::new(),
+        }
+    }
+
     /// A client of that number, and a seat for each capacity of a ring: the first has the number 1.
     /// Of a capacity a 0 counts as 1, and more than 65,536 as that. A program keeps the numbers of
-    /// its clients apart. What the lock keeps then is said by [`Shared::open`], which this wraps.
+    /// its clients apart. What the lock keeps first is a new core of these limits, as of
+    /// [`Shared::open`].
     ///
     /// # Errors
     ///
@@ -62,17 +80,14 @@ impl Client {
         limits: Limits,
     ) -> Result<(Client, Vec<Seat>), ClientError>
         ensures few { IfOk result (λ opened. length capacities.now ≤ 64) }
+        ensures locked { IfOk result (λ opened.
+            opened.0.first.value ≡ new_locked number (length capacities.now) limits) }
         ensures seats { IfOk result (λ opened. opened.1.items ≡ seats_from number 1 capacities.now) }
         ensures refused { IfErr result (λ e. ((e ≡ TooManySeats) × (64 < length capacities.now))
             ⊎ (e ≡ NoMemory)) }
     {
         let (shared, seats) = Shared::open(alloc, number, capacities, limits)?;
-        let client = Client {
-            shared: Mutex::new(shared),
-            notices: AtomicU64::new(0),
-            news: Condvar::new(),
-        };
-        Ok((client, seats))
+        Ok((Client::around(shared), seats))
     }
 }
 
@@ -119,6 +134,8 @@ impl ClientNumbers {
     ) -> Result<(Client, Vec<Seat>), ClientError>
         ensures few { IfOk result (λ opened. length capacities.now ≤ 64) }
         ensures given { OnOk result (self.new ≡ self.old + 1) }
+        ensures locked { IfOk result (λ opened.
+            opened.0.first.value ≡ new_locked self.new (length capacities.now) limits) }
         ensures seats { IfOk result (λ opened. opened.1.items ≡ seats_from self.new 1 capacities.now) }
         ensures refused { IfErr result (λ e. ((e ≡ TooManySeats)
             × ((64 < length capacities.now) ⊎ (self.old ≡ 18446744073709551615))) ⊎ (e ≡ NoMemory)) }
