@@ -192,9 +192,20 @@ def row(programs):
 # ---- calls that fail in turn
 
 
+SHOWN, BEFORE = 160, 40  # how many characters of a long text are shown, and how many of them before the first that differs
+
+
+def apart(got, wanted):
+    """Two values as texts, of long ones what stands where they begin to differ."""
+    both, at = (str(got), str(wanted)), 0
+    if max(map(len, both)) > SHOWN:
+        at = max(0, len(os.path.commonprefix(both)) - BEFORE)
+    return [(".." if at else "") + it[at : at + SHOWN] + (".." if it[at + SHOWN :] else "") for it in both]
+
+
 def must(what, got, wanted):
     if got != wanted:
-        raise Wrong(f"{what} is {str(got)[:160]}, not {str(wanted)[:160]}")
+        raise Wrong("{} is {}, not {}".format(what, *apart(got, wanted)))
 
 
 def second(port):

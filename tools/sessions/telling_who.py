@@ -1,8 +1,15 @@
 """What ./check asks of `emulate` about who is connected and what each listens to: who is told, when, how it is written, and what of a slow one."""
+import contextlib
+import fcntl
 import http.client
+import json
+import os
+import signal
 import socket
 import struct
+import termios
 import time
+import types
 
 from cutting import must
 from emulating import LISTEN, Emulator, answered, data, drop, ok, put, say, wrong_in
@@ -81,6 +88,76 @@ def who_asks_is_told(program, _room):
         told("and is told the same", second, *both)
         must("a close", first.close(), b"\x88\x00")
         told("the first goes", second, *both[1:])
+        must("how it ends", it.end(), (0, b""))
+
+
+@contextlib.contextmanager
+def halted(it):
+    """Meanwhile an emulator stands still, as one that has no processor: what comes is there at once when it goes on."""
+    os.kill(it.ran.pid, signal.SIGSTOP)
+    os.waitid(os.P_PID, it.ran.pid, os.WSTOPPED)
+    try:
+        yield
+    finally:
+        os.kill(it.ran.pid, signal.SIGCONT)
+
+
+def arrives(client):
+    """Waits until what a client has sent stands at the other end, whether that reads it or not."""
+    until = time.monotonic() + SECONDS
+    while any(fcntl.ioctl(client.socket, termios.TIOCOUTQ, bytes(4))):
+        must("whether what is sent arrives", time.monotonic() < until, True)
+        time.sleep(0.001)
+
+
+def comer(port):
+    """A client that has connected, and has said nothing yet."""
+    it = socket.create_connection(("127.0.0.1", port), timeout=SECONDS)
+    return types.SimpleNamespace(socket=it, stream=it.makefile("rb"))
+
+
+def shakes(client, target):
+    """Sends the whole handshake of one that has connected, and waits until it is there."""
+    fields = "Host: x\r\nUpgrade: websocket\r\nConnection: Upgrade\r\nSec-WebSocket-Version: 13\r\nSec-WebSocket-Key: dGhlIHNhbXBsZSBub25jZQ==\r\n\r\n"
+    client.socket.sendall(f"GET {target} HTTP/1.1\r\n{fields}".encode())
+    arrives(client)
+
+
+def has_shaken(client):
+    """Reads what answers a handshake."""
+    must("a handshake", client.stream.readline()[:12], b"HTTP/1.1 101")
+    while client.stream.readline() not in (b"\r\n", b""):
+        pass
+
+
+def who_asks_stands_in_what_it_is_told(program, _room):
+    """One that asks is told first what is so once it has come, also where it and others come at once; and no message of others holds that up."""
+    with Emulator(program) as it:
+        first = asker(it.port)
+        me = one(1, first, asks=True)
+        told("the first text", first, me)
+        second, other = comer(it.port), Client(it.port)  # the other's handshake is done, so both were let in
+        told("another comes", first, me, one(2, other))
+        with halted(it):
+            shakes(second, "/?clients")
+            fourth = comer(it.port)
+            shakes(fourth, "/")
+        has_shaken(second)
+        now = [me, one(2, other), one(3, second, asks=True), one(4, fourth)]
+        told("what the second is told first", second, *now)
+        told("two come", first, *now)
+        listens = [{**LISTEN, "tag": tag} for tag in range(1, 1001)]
+        with halted(it):
+            other.send_all([compact(it) for it in listens])
+            arrives(other)
+            last = comer(it.port)
+            shakes(last, "/?clients")
+        has_shaken(last)
+        shown = json.loads(said(last))["clients"]
+        must("those that the last is told of first", [it["n"] for it in shown], [1, 2, 3, 4, 5])
+        must("whether it is told before all messages of another are taken", len(shown[1]["listens"]) < len(listens), True)
+        while shown[1]["listens"] != listens:
+            shown = json.loads(said(last))["clients"]
         must("how it ends", it.end(), (0, b""))
 
 
@@ -183,7 +260,14 @@ def slow_ones_are_told_the_newest(program, _room):
         must("how it ends", it.end(), (0, b""))
 
 
-SESSIONS = [who_asks_is_told, foreign_pages_are_not_told, who_asks_later_is_told_all, long_texts_name_nobody, slow_ones_are_told_the_newest]
+SESSIONS = [
+    who_asks_is_told,
+    who_asks_stands_in_what_it_is_told,
+    foreign_pages_are_not_told,
+    who_asks_later_is_told_all,
+    long_texts_name_nobody,
+    slow_ones_are_told_the_newest,
+]
 
 
 def wrong_of(programs, room):

@@ -49,7 +49,8 @@ impl Drop for Question {
     }
 }
 
-/// What the hub is asked for a request, where it is asked, and whether the answer is laid out; or why it isn't done.
+/// What the hub is asked for a request, where it is asked, and whether the answer is laid out; or why it
+/// isn't done.
 pub(crate) type Prepared = Result<(Option<Question>, bool), Fault>;
 
 // What the hub is asked, where a new key is this one; none where it isn't asked.
@@ -105,8 +106,8 @@ fn note(
     }
 }
 
-// Asks the hub by a connection that begins and ends with it, and answers what this one is sent. Notes what was
-// accepted, and to whom something is sent.
+// Asks the hub by a connection that begins and ends with it, and answers what this one is sent. Notes what
+// was accepted, and to whom something is sent.
 fn ask_hub(
     hub: &mut Hub,
     keeper: &mut Keeper,
@@ -283,8 +284,8 @@ pub(crate) fn page_of<'a>(reply: &Reply, origin: Option<&'a [u8]>) -> Option<&'a
     }
 }
 
-/// Puts an answer behind the bytes: whether the connection goes on, bare where it is one of a head, and to a page
-/// of that origin.
+/// Puts an answer behind the bytes: whether the connection goes on, bare where it is one of a head, and to a
+/// page of that origin.
 pub(crate) fn put_reply(
     alloc: Global,
     out: &mut Vec<u8>,
@@ -394,8 +395,8 @@ impl OnWay {
 
 // ---- a stream whose first bytes were read before
 
-/// A stream whose first bytes were read before: they are read again, those of a head first, and none behind it
-/// together with it.
+/// A stream whose first bytes were read before: they are read again, those of a head first, and none behind
+/// it together with it.
 pub(crate) struct Replay {
     first: Vec<u8>,
     // How many of them have been read again.

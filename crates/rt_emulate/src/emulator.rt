@@ -195,7 +195,8 @@ impl Emulator {
         Ok(self.edge.stopper()?)
     }
 
-    // How many milliseconds may be waited for events; none: for ever. Where lines wait they are handed on soon.
+    // How many milliseconds may be waited for events; none: for ever. Where lines wait they are handed on
+    // soon.
     fn patience(&self, has_lines: bool) -> Option<u64>
         ensures { IsPatience self.entry.now has_lines result }
     {
@@ -317,8 +318,8 @@ impl Emulator {
     }
 
     // Takes what happened, and does all that can be done now without waiting. Answers whether it has stopped,
-    // as it was told to, or since as many connections have gone as are served: then all go, what they asked for
-    // at their end is run, and the tree's file has it all.
+    // as it was told to, or since as many connections have gone as are served: then all go, what they asked
+    // for at their end is run, and the tree's file has it all.
     fn work<R, Y>(&mut self, rt: &R, system: &Y, log: &mut Diary) -> Result<bool, Halt>
     where
         R: Threads,

@@ -56,8 +56,8 @@ impl Ending {
     }
 
     /// The code that RFC 6455 (section 7.4.1) has for the client, where it is told why: as at
-    /// [`Broken::close_code`], or it has more listens than it may, more waits for it or for all than may, or all
-    /// are ended.
+    /// [`Broken::close_code`], or it has more listens than it may, more waits for it or for all than may, or
+    /// all are ended.
     pub(crate) fn close_code(self) -> Option<u16>
         ensures { result ≡ close_code self }
     {

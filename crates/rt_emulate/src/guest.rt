@@ -146,8 +146,8 @@ impl Talk {
         }
     }
 
-    /// Sends these texts. Answers what became of its turn, if it is over: it reads nothing, and more waits for
-    /// it than may.
+    /// Sends these texts. Answers what became of its turn, if it is over: it reads nothing, and more waits
+    /// for it than may.
     pub(crate) fn answer(
         &mut self,
         texts: &[String],
@@ -182,7 +182,8 @@ impl Talk {
     ) -> Result<bool, Halt>
         ensures handed { IfOk result (λ more. HandsAs more self.old self.new hub.old hub.new) }
         ensures kept { self.new.connection ≡ self.old.connection }
-        ensures on_way { OnOk result (Counts self.new.connection self.new.socket.unsent on_way.old on_way.new) }
+        ensures on_way { OnOk result
+            (Counts self.new.connection self.new.socket.unsent on_way.old on_way.new) }
     {
         let Ok(handed) = hand_over(hub, &mut self.socket, self.connection) else {
             return Err(Halt::NoMemory);
@@ -232,8 +233,8 @@ impl Talk {
         self.is_owed(version) && !self.is_blocked && self.socket.unsent == 0
     }
 
-    /// Sends the text that says who is connected, which has that number, where it is owed that and its stream has
-    /// taken all that came before: so one that is slow is told the newest alone.
+    /// Sends the text that says who is connected, which has that number, where it is owed that and its stream
+    /// has taken all that came before: so one that is slow is told the newest alone.
     pub(crate) fn tell(&mut self, text: &str, version: u64) -> Result<Told, AllocError>
         ensures { IfOk result (λ said. Tells text.now version self.old said self.new) }
     {
@@ -383,8 +384,8 @@ impl Guest {
         Ok(())
     }
 
-    /// One that asks shakes hands from now on: the head of its handshake has so many bytes. What that says of it is
-    /// kept.
+    /// One that asks shakes hands from now on: the head of its handshake has so many bytes. What that says of
+    /// it is kept.
     pub(crate) fn upgrade(&mut self, alloc: Global, size: usize, judge: Judge) -> Result<(), Halt> {
         self.look()?;
         let stage = std::mem::replace(&mut self.stage, Stage::Gone);
@@ -401,8 +402,8 @@ impl Guest {
         std::mem::replace(&mut self.stage, Stage::Gone).into_shaking()
     }
 
-    /// Goes on to shake hands. Answers what became of its turn: there is more once it is a connection, which has
-    /// no number yet.
+    /// Goes on to shake hands. Answers what became of its turn: there is more once it is a connection, which
+    /// has no number yet.
     pub(crate) fn shake(
         &mut self,
         alloc: Global,

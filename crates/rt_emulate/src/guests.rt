@@ -1,5 +1,5 @@
 // Those that have come, over one hub.
-ghost use Rattle.std.specs.Prelude.{◌≡◌, [], None, Ok, IfOk, OnOk};
+ghost use Rattle.std.specs.Prelude.{◌≡◌, [], None, Ok, IfOk, OnOk, true};
 ghost use Rattle.std.specs.Option.{option_map_or};
 ghost use Rattle.rt_emulate.specs.Clients.{clients_text};
 ghost use Rattle.rt_emulate.specs.declared.ending.Ending.TheVariants.{Stopped};
@@ -154,7 +154,8 @@ impl Guests {
         self.turn_each(system, ready.as_slice(), log)
     }
 
-    // The guests at these places have a turn, and what waits is handed over.
+    // The guests at these places have a turn. Then those that ask are told who is connected, and what waits
+    // is handed over.
     fn turn_each<Y: Files<File = File>>(
         &mut self,
         system: &Y,
@@ -168,6 +169,7 @@ impl Guests {
                 Turned::Ends(why) => self.remove(*place, why, log)?,
             }
         }
+        self.renew_roster()?;
         self.hand_over_all(log)
     }
 
@@ -236,7 +238,8 @@ impl Guests {
         Ok(Turned::More)
     }
 
-    // Does what is next of the guest at that place, which asks. Answers what became of its turn, if it is over.
+    // Does what is next of the guest at that place, which asks. Answers what became of its turn, if it is
+    // over.
     fn hear_request<Y: Files<File = File>>(
         &mut self,
         system: &Y,
@@ -346,8 +349,8 @@ impl Guests {
         answered
     }
 
-    // Hands over to all that are noted before the next message is taken, where much was sent or more waits for all
-    // than may.
+    // Hands over to all that are noted before the next message is taken, where much was sent or more waits
+    // for all than may.
     fn hand_over_many(&mut self, log: &mut Diary) -> Result<(), Halt> {
         if self.sent >= MOST_SENT || self.on_way.is_crowded(&self.hub) {
             return self.hand_over_all(log);
@@ -381,8 +384,8 @@ impl Guests {
         Ok(())
     }
 
-    // Hands over to the guest at that place what waits for it, and tells it who is connected, where it is owed that.
-    // Answers why it goes, if it does.
+    // Hands over to the guest at that place what waits for it, and tells it who is connected, where it is
+    // owed that. Answers why it goes, if it does.
     fn serve(&mut self, place: usize, log: &mut Diary) -> Result<Option<Ending>, Halt> {
         match self.hand_over_to(place, log)? {
             Some(why) => Ok(Some(why)),
@@ -390,13 +393,18 @@ impl Guests {
         }
     }
 
-    // Tells the guest at that place who is connected, where it is owed that: what it is told goes out next. It goes
+    // Tells the guest at that place who is connected, where it is owed that: what it is told goes out next.
+    // Nobody is told a text that is to be made anew, since one that asks may not stand in it. The guest goes
     // where memory lacks for it, and nobody else does. Answers why, if it does.
     fn tell(&mut self, place: usize) -> Result<Option<Ending>, Halt>
         ensures hub { self.new.hub ≡ self.old.hub }
         ensures kept { self.new.roster ≡ self.old.roster }
         ensures untold { talk_at self.old.present place ≡ None → result ≡ Ok None }
+        ensures stale { is_due self.old.roster ≡ true → (self.new ≡ self.old) × (result ≡ Ok None) }
     {
+        if self.roster.is_due() {
+            return Ok(None);
+        }
         let Some(talk) = self.present.talk(place) else {
             return Ok(None);
         };
@@ -411,8 +419,8 @@ impl Guests {
         }
     }
 
-    /// Where somebody asks who is connected and that may have changed, the text that says it is made anew, and those
-    /// that ask are told it next. Where memory lacks for it that is done behind a later round.
+    /// Where somebody asks who is connected and that may have changed, the text that says it is made anew,
+    /// and those that ask are told it next. Where memory lacks for it that is done behind a later round.
     #[tactic(auto, using(crate::proofs::Renewing::renews, crate::proofs::Renewing::stays))]
     pub(crate) fn renew_roster(&mut self) -> Result<(), Halt>
         ensures { OnOk result (RenewsIf (is_due self.old.roster)

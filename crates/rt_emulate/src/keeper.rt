@@ -104,7 +104,8 @@ impl Keeper {
         }
     }
 
-    /// Notes a turn of the connection's end, in which so many of its requests were done and which is not the last.
+    /// Notes a turn of the connection's end, in which so many of its requests were done and which is not the
+    /// last.
     pub(crate) fn note_turn(&mut self, connection: u64, count: usize) -> Result<(), Halt>
         ensures { OnOk result
             (self.new.journal ≡ option_map (note_turn connection count) self.old.journal) }

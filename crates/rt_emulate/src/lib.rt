@@ -11,8 +11,8 @@
 //! ```
 //!
 //! What a message does, and how texts are taken and handed over, is decided by `rt_hub`. This
-//! crate is the edge: streams, handshakes, turns, what is due of a silent client, the tree's file, the files that
-//! are served beside the tree, and who is connected, for those that ask.
+//! crate is the edge: streams, handshakes, turns, what is due of a silent client, the tree's file, the files
+//! that are served beside the tree, and who is connected, for those that ask.
 #![tactic(auto)]
 
 mod calls;

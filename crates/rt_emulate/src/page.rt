@@ -63,8 +63,8 @@ fn may_host(
 }
 
 /// Whether a request is let in that names that host and that origin, where pages of `here`, which is the
-/// address that it came to, are of this machine: a host is let in where one of its own pages may connect, since
-/// a browser may leave out the origin of such a page.
+/// address that it came to, are of this machine: a host is let in where one of its own pages may connect,
+/// since a browser may leave out the origin of such a page.
 ///
 /// # Errors
 ///

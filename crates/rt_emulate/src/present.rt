@@ -2,8 +2,8 @@
 ghost use Rattle.std.specs.Prelude.{◌≡◌, ◌≢◌, ◌∷◌, ◌++◌, [], ℕ, None, OnOk};
 ghost use Rattle.std.specs.Option.{option_copied, option_copied_mut, option_map};
 ghost use Rattle.slab.specs.Slab.{get};
-ghost use Rattle.rt_emulate.specs.inside.Guests.{asking_at, guest_of, is_idle, marked, noted_after, readied, ready_after};
-ghost use Rattle.rt_emulate.specs.inside.Guests.{NotesAt, NotesEach, talk_at};
+ghost use Rattle.rt_emulate.specs.inside.Guests.{asking_at, guest_of, is_idle, marked, noted_after};
+ghost use Rattle.rt_emulate.specs.inside.Guests.{NotesAt, NotesEach, readied, ready_after, talk_at};
 ghost use Rattle.rt_emulate.specs.inside.Places.{place_of};
 ghost use Rattle.rt_emulate.specs.inside.Rosters.{client_in};
 

@@ -142,8 +142,8 @@ impl Socket {
         let _pinged = done(self.socket.send(Message::Ping(Bytes::new())));
     }
 
-    /// Sends what waits, as far as it goes, and a close with that code and that reason, which has 123 bytes at
-    /// most. A socket that has failed takes no close, so it is written behind its back.
+    /// Sends what waits, as far as it goes, and a close with that code and that reason, which has 123 bytes
+    /// at most. A socket that has failed takes no close, so it is written behind its back.
     pub(crate) fn close(&mut self, code: u16, reason: &str) {
         if done(self.socket.flush()).is_ok() {
             let len = reason.len().min(123);

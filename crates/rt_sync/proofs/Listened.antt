@@ -32,7 +32,7 @@ use Rattle.rt_world.specs.laws.Listened.{CloseSeatIsMade, left_brought, ListenIs
 use Rattle.rt_world.proofs.Listeners.{registered-renewed}
 use Rattle.rt_world.specs.laws.Holds.{CoverFollows}
 use Rattle.rt_sync.specs.Core.{Held}
-use Rattle.rt_sync.specs.declared.state.Told.{Told}
+use Rattle.rt_sync.specs.declared.state.StepNews.{StepNews}
 use Rattle.rt_sync.specs.inside.Due.{IsDue, IsNext}
 use Rattle.rt_sync.specs.inside.Losing.{AreMoved}
 use Rattle.rt_sync.specs.inside.Parts.{changing}
@@ -135,7 +135,7 @@ module _ (state : State) where
       → (ls' : List Listener) → ls' ≡ state.listeners.listeners ++ renewed b' (pending state.requests) (new_listener (state.given_listeners + 1) seat query) ∷ []
       → (delta : Delta) → delta ≡ difference state.cover (added state.cover (state.given_listeners + 1) query)
       → (out' : List ClientMessage) → out' ≡ state.outgoing.items ++ changing state.is_connected delta
-      → (said : Told) → said.given ≡ Some (state.given_listeners + 1) → said.notes.items ≡ option_to_list (told b' (pending state.requests) (new_listener (state.given_listeners + 1) seat query))
+      → (said : StepNews) → said.given ≡ Some (state.given_listeners + 1) → said.notes.items ≡ option_to_list (told b' (pending state.requests) (new_listener (state.given_listeners + 1) seat query))
       → IsNext w (Step.Listen seat query) (record w { listeners = ls'; brought = b'; kept = cover'.kept; outgoing = out'; next_listener = state.given_listeners + 1 + 1; next_tag = cover'.next_tag }, said)
   listen_made law t seat query d cover' ce b' be ls' le delta de out' oe said given notes =
       let leaves = law w seat query (made_of w (Step.Listen seat query) d) d.good.reached in
@@ -171,7 +171,7 @@ module _ (state : State) where
       → (ls' : List Listener) → ls' ≡ map (renewed_of moved b' ws) (filter (λ (l : Listener). not (l.number == listener)) state.listeners.listeners)
       → (delta : Delta) → delta ≡ difference state.cover (removed state.cover (listener ∷ []))
       → (out' : List ClientMessage) → out' ≡ state.outgoing.items ++ changing state.is_connected delta
-      → (said : Told) → said.given ≡ None → said.notes.items ≡ all_told_of moved b' ws (filter (λ (l : Listener). not (l.number == listener)) state.listeners.listeners)
+      → (said : StepNews) → said.given ≡ None → said.notes.items ≡ all_told_of moved b' ws (filter (λ (l : Listener). not (l.number == listener)) state.listeners.listeners)
       → IsNext w (Step.Unlisten seat listener) (record w { listeners = ls'; brought = b'; kept = cover'.kept; outgoing = out'; next_tag = cover'.next_tag }, said)
   unlisten_made law t seat listener d cover' ce b' be moved just ws we ls' le delta de out' oe said given notes =
       let leaves = law w seat listener (made_of w (Step.Unlisten seat listener) d) d.good.reached in
@@ -210,7 +210,7 @@ module _ (state : State) where
       → (ls' : List Listener) → ls' ≡ map (renewed_of moved b' ws) (filter (λ (l : Listener). not (l.seat == seat)) state.listeners.listeners)
       → (delta : Delta) → delta ≡ difference state.cover (removed state.cover numbers)
       → (out' : List ClientMessage) → out' ≡ state.outgoing.items ++ changing state.is_connected delta
-      → (said : Told) → said.given ≡ None → said.notes.items ≡ all_told_of moved b' ws (filter (λ (l : Listener). not (l.seat == seat)) state.listeners.listeners)
+      → (said : StepNews) → said.given ≡ None → said.notes.items ≡ all_told_of moved b' ws (filter (λ (l : Listener). not (l.seat == seat)) state.listeners.listeners)
       → IsNext w (Step.CloseSeat seat) (record w { listeners = ls'; requests = requests'; brought = b'; kept = cover'.kept; outgoing = out'; next_tag = cover'.next_tag }, said)
   close_made law t seat d numbers ne cover' ce requests' re b' be moved just ws we ls' le delta de out' oe said given notes =
       let leaves = law w seat (made_of w (Step.CloseSeat seat) d) d.good.reached in
@@ -252,7 +252,7 @@ module _ (state : State) where
       → (ls' : List Listener) → ls' ≡ map (renewed_of moved b' ws) (filter (λ (l : Listener). not (query_eq (form l.query) listened)) state.listeners.listeners)
       → (delta : Delta) → delta ≡ without_tag tag (difference state.cover (revoked state.cover tag))
       → (out' : List ClientMessage) → out' ≡ state.outgoing.items ++ changing state.is_connected delta
-      → (said : Told) → said.given ≡ None → said.notes.items ≡ map (cancelled_note why) (filter (λ (l : Listener). query_eq (form l.query) listened) state.listeners.listeners) ++ all_told_of moved b' ws (filter (λ (l : Listener). not (query_eq (form l.query) listened)) state.listeners.listeners)
+      → (said : StepNews) → said.given ≡ None → said.notes.items ≡ map (cancelled_note why) (filter (λ (l : Listener). query_eq (form l.query) listened) state.listeners.listeners) ++ all_told_of moved b' ws (filter (λ (l : Listener). not (query_eq (form l.query) listened)) state.listeners.listeners)
       → IsNext w (Step.Revoked tag why) (record w { listeners = ls'; brought = b'; kept = cover'.kept; outgoing = out'; next_tag = cover'.next_tag }, said)
   revoke_made law t tag why d listened fe cover' ce b' be moved just ws we ls' le delta de out' oe said given notes =
       let leaves = law w tag why (made_of w (Step.Revoked tag why) d) d.good.reached in

@@ -34,7 +34,7 @@ use Rattle.rt_world.specs.Met.{do_meet, renewed_met, all_told}
 use Rattle.rt_world.specs.laws.Made.{asked_sent, IsMade, Leaves, AcceptedIsMade, RefusedIsMade, PushIsMade, WriteIsMade, EndingIsMade, ConnectedIsMade, DisconnectedIsMade, settled_world, settled_told, writes_with}
 use Rattle.rt_world.specs.laws.Steps.{RenewedIsOne, WriteIsPending, SettledIsNotPending}
 use Rattle.rt_sync.specs.Core.{Held}
-use Rattle.rt_sync.specs.declared.state.Told.{Told}
+use Rattle.rt_sync.specs.declared.state.StepNews.{StepNews}
 use Rattle.rt_sync.specs.inside.Due.{IsDue, IsNext, settling}
 use Rattle.rt_sync.specs.inside.Parts.{listens_shown}
 use Rattle.rt_sync.specs.declared.state.State.{State}
@@ -176,7 +176,7 @@ module _ (state : State) where
       → (entries : List Assignment) → entries ≡ entries_settled w id
       → (requests' : List Request) → requests' ≡ filter (λ (r : Request). not (r.id == id)) state.requests
       → (ls' : List Listener) → ls' ≡ map (renewed_met entries state.brought (pending requests')) state.listeners.listeners
-      → (told : Told) → told.given ≡ None
+      → (told : StepNews) → told.given ≡ None
       → told.notes.items ≡ option_to_list (option_map (λ seat. record { seat = seat; body = Settled id why }) (option_and_then (λ (r : Request). r.seat) (find (λ (r : Request). r.id == id) state.requests))) ++ all_told entries state.brought (pending requests') state.listeners.listeners
       → IsNext w (settling id why) (record w { listeners = ls'; requests = requests' }, told)
   settle_made accepted refused left id why d entries ee requests' re ls' he told given notes =
@@ -195,7 +195,7 @@ module _ (state : State) where
       → (b' : Brought) → b' ≡ fold (λ (x : Brought) (p : Part). option_map_or (λ q. fold (push q) x p.1) (option_map (λ (k : Tagged). k.form) (listen_at state.cover p.0)) x) state.brought parts
       → (entries : List Assignment) → entries ≡ entries_pushed parts
       → (ls' : List Listener) → ls' ≡ map (renewed_met entries b' (pending state.requests)) state.listeners.listeners
-      → (told : Told) → told.given ≡ None → told.notes.items ≡ all_told entries b' (pending state.requests) state.listeners.listeners
+      → (told : StepNews) → told.given ≡ None → told.notes.items ≡ all_told entries b' (pending state.requests) state.listeners.listeners
       → IsNext w (Step.Push parts) (record w { listeners = ls'; brought = b' }, told)
   push_made law parts d b' be entries ee ls' he told given notes =
       let s : Step = Step.Push parts in
@@ -214,7 +214,7 @@ module _ (state : State) where
       → (requests' : List Request) → requests' ≡ state.requests ++ record { id = state.given_requests + 1; seat = Some seat; asked = Now action } ∷ []
       → (ls' : List Listener) → ls' ≡ map (renewed_met entries state.brought (pending requests')) state.listeners.listeners
       → (out' : List ClientMessage) → out' ≡ state.outgoing.items ++ asked_sent state.is_connected (state.given_requests + 1) (Now action)
-      → (told : Told) → told.given ≡ Some (state.given_requests + 1) → told.notes.items ≡ all_told entries state.brought (pending requests') state.listeners.listeners
+      → (told : StepNews) → told.given ≡ Some (state.given_requests + 1) → told.notes.items ≡ all_told entries state.brought (pending requests') state.listeners.listeners
       → IsNext w (Step.Write seat action) (record w { listeners = ls'; requests = requests'; outgoing = out'; next_request = state.given_requests + 1 + 1 }, told)
   write_made law more seat action d entries ee requests' re ls' he out' oe told given notes =
       let leaves = law w seat action (made_of w (Step.Write seat action) d) d.good.reached in
@@ -231,7 +231,7 @@ module _ (state : State) where
       }
 
   pub connect_made : ConnectedIsMade → IsDue w Step.Connected → (out' : List ClientMessage) → out' ≡ ClientMessage.Hello VERSION ∷ (listens_shown (shown state.cover) ++ map request_message state.requests)
-      → (told : Told) → told.given ≡ None → told.notes.items ≡ [] → IsNext w Step.Connected (record w { is_connected = true; outgoing = out' }, told)
+      → (told : StepNews) → told.given ≡ None → told.notes.items ≡ [] → IsNext w Step.Connected (record w { is_connected = true; outgoing = out' }, told)
   connect_made law d out' oe told given notes =
       let leaves = law w (made_of w Step.Connected d) d.good.reached in
       record {
@@ -244,7 +244,7 @@ module _ (state : State) where
       }
 
   pub disconnect_made : DisconnectedIsMade → IsDue w Step.Disconnected → (out' : List ClientMessage) → out' ≡ []
-      → (told : Told) → told.given ≡ None → told.notes.items ≡ [] → IsNext w Step.Disconnected (record w { is_connected = false; outgoing = out' }, told)
+      → (told : StepNews) → told.given ≡ None → told.notes.items ≡ [] → IsNext w Step.Disconnected (record w { is_connected = false; outgoing = out' }, told)
   disconnect_made law d out' oe told given notes =
       let leaves = law w (made_of w Step.Disconnected d) d.good.reached in
       record {
@@ -256,7 +256,7 @@ module _ (state : State) where
   pub ask_made : EndingIsMade → (seat : ℕ) (ending : Ending) → IsDue w (Step.OnDisconnect seat ending)
       → (out' : List ClientMessage) → out' ≡ state.outgoing.items ++ asked_sent state.is_connected (state.given_requests + 1) (AtDisconnect ending)
       → (requests' : List Request) → requests' ≡ state.requests ++ record { id = state.given_requests + 1; seat = Some seat; asked = AtDisconnect ending } ∷ []
-      → (told : Told) → told.given ≡ Some (state.given_requests + 1) → told.notes.items ≡ []
+      → (told : StepNews) → told.given ≡ Some (state.given_requests + 1) → told.notes.items ≡ []
       → IsNext w (Step.OnDisconnect seat ending) (record w { requests = requests'; outgoing = out'; next_request = state.given_requests + 1 + 1 }, told)
   ask_made law seat ending d out' oe requests' re told given notes =
       let leaves = law w seat ending (made_of w (Step.OnDisconnect seat ending) d) d.good.reached in

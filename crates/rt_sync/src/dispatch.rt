@@ -3,7 +3,7 @@ ghost use Rattle.std.specs.Prelude.{◌≡◌, false, None, Ok, IfOk, OnErr};
 ghost use Rattle.rt_world.specs.declared.report.Outcome.TheVariants.{Done};
 ghost use Rattle.rt_world.specs.Answers.{stale_report};
 
-use crate::state::{State, Told};
+use crate::state::{State, StepNews};
 use rt_world::{
     CoreError, Notes, Outcome, Report, Step, answer_law, brought_law, sound_law, stay_law,
     touch_law,
@@ -11,7 +11,7 @@ use rt_world::{
 use std::alloc::{AllocError, Global};
 
 // The report of what a step tells that is done.
-fn done_report(told: Told) -> Report
+fn done_report(told: StepNews) -> Report
     ensures { result ≡ record { outcome = Done; given = told.given; notes = told.notes.items } }
 {
     Report {
@@ -39,7 +39,7 @@ impl State {
     ghost use Rattle.rt_sync.specs.inside.States.{HoldsWell, IsReady, Makes, Takes};
 
     // The step, which is neither refused nor stale.
-    fn next(&mut self, step: Step) -> Result<Told, AllocError>
+    fn next(&mut self, step: Step) -> Result<StepNews, AllocError>
         requires { IsReady self.old step }
         ensures made { IfOk result (λ told. Makes self.old step self.new told) }
         ensures not_closing { OnErr result ((kind step).closes ≡ false) }

@@ -73,7 +73,7 @@ impl State {
 
 // The number of the new listener or request, and what the seats are told.
 #[derive(Drop)]
-pub(crate) struct Told {
+pub(crate) struct StepNews {
     pub(crate) given: Option<u64>,
     pub(crate) notes: Vec<Note>,
 }

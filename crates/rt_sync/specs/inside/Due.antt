@@ -9,7 +9,7 @@ use Rattle.rt_world.specs.Called.{IsCalled}
 use Rattle.rt_world.specs.Limited.{IsWithin}
 use Rattle.rt_world.specs.Reached.{IsReached}
 use Rattle.rt_world.specs.Sound.{IsSound}
-use Rattle.rt_sync.specs.declared.state.Told.{Told}
+use Rattle.rt_sync.specs.declared.state.StepNews.{StepNews}
 
 -- what holds between steps
 pub record IsGood (w : World) : Type 0 where
@@ -25,7 +25,7 @@ pub record IsDue (w : World) (s : Step) : Type 0 where
   pub not_stale : is_stale w s ≡ false
 
 -- the world after the step, with what the report says
-pub record IsNext (w : World) (s : Step) (made : World × Told) : Type 0 where
+pub record IsNext (w : World) (s : Step) (made : World × StepNews) : Type 0 where
   pub world : made.0 ≡ next w s
   pub given : made.1.given ≡ (done_report w s).given
   pub notes : made.1.notes.items ≡ (done_report w s).notes

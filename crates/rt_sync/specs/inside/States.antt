@@ -3,7 +3,7 @@ use Rattle.std.specs.Prelude.{◌≡◌}
 use Rattle.rt_world.specs.declared.step.Step.{Step}
 use Rattle.rt_world.specs.Answers.{Answer, step}
 use Rattle.rt_sync.specs.declared.state.State.{State}
-use Rattle.rt_sync.specs.declared.state.Told.{Told}
+use Rattle.rt_sync.specs.declared.state.StepNews.{StepNews}
 use Rattle.rt_sync.specs.inside.Due.{IsDue, IsGood, IsNext}
 use Rattle.rt_sync.specs.inside.StateView.{held_of, world_of, IsTied}
 use Rattle.rt_sync.specs.inside.Viewed.{AreViewed, FollowsStep, HasViews}
@@ -21,7 +21,7 @@ pub record IsReady (state : State) (s : Step) : Type 0 where
   pub due : IsDue (world_of state) s
 
 -- the step is made of it, and this is told
-pub record Makes (old : State) (s : Step) (new : State) (told : Told) : Type 0 where
+pub record Makes (old : State) (s : Step) (new : State) (told : StepNews) : Type 0 where
   pub tied : IsTied new.cover (world_of new)
   pub next : IsNext (world_of old) s (world_of new, told)
   pub views : HasViews (held_of old) s (held_of new)

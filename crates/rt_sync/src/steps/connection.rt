@@ -7,7 +7,7 @@ ghost use Rattle.rt_world.specs.declared.error.CoreError.TheVariants as CoreErro
 
 use super::listens::uncover;
 use super::losses::{forms_of, lose_ended};
-use crate::state::{State, Told, greeted, send_change, send_listens, send_requests};
+use crate::state::{State, StepNews, greeted, send_change, send_listens, send_requests};
 use rt_cover::{Choice, Cover, Kept};
 use rt_parts::Listeners;
 use rt_world::{
@@ -62,7 +62,7 @@ impl State {
 
     // A connection is opened: the version is to be told, then all kept listens, and then all unsettled
     // requests.
-    pub(crate) fn connect(&mut self) -> Result<Told, AllocError>
+    pub(crate) fn connect(&mut self) -> Result<StepNews, AllocError>
         requires { IsReady self.old Step.Connected }
         ensures { IfOk result (λ told. Makes self.old Step.Connected self.new told) }
     {
@@ -75,11 +75,11 @@ impl State {
         self.outgoing = outgoing;
         self.is_connected = true;
         let notes = Vec::new(alloc);
-        Ok(Told { given: None, notes })
+        Ok(StepNews { given: None, notes })
     }
 
     // The connection ends: what was to be sent is dropped.
-    pub(crate) fn disconnect(&mut self) -> Told
+    pub(crate) fn disconnect(&mut self) -> StepNews
         requires { IsReady self.old Step.Disconnected }
         ensures { Makes self.old Step.Disconnected self.new result }
     {
@@ -89,7 +89,7 @@ impl State {
         self.outgoing.clear();
         self.is_connected = false;
         let notes = Vec::new(alloc);
-        Told { given: None, notes }
+        StepNews { given: None, notes }
     }
 }
 
@@ -143,7 +143,7 @@ impl State {
 
     // A seat goes: its listeners end, and its requests stay, without a seat. Other seats are told where
     // their listeners' views change since these are moved.
-    pub(crate) fn close_seat(&mut self, seat: u64) -> Result<Told, AllocError>
+    pub(crate) fn close_seat(&mut self, seat: u64) -> Result<StepNews, AllocError>
         requires { IsReady self.old (Step.CloseSeat seat) }
         ensures { IfOk result (λ told. Makes self.old (Step.CloseSeat seat) self.new told) }
     {
@@ -172,6 +172,6 @@ impl State {
         self.listeners
             .renew(&moved, &self.brought, pending, &mut notes)?;
         send_change(&mut self.outgoing, self.is_connected, delta)?;
-        Ok(Told { given: None, notes })
+        Ok(StepNews { given: None, notes })
     }
 }

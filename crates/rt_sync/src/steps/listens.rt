@@ -4,7 +4,7 @@ ghost use Rattle.rt_query.specs.Supply.{form};
 ghost use Rattle.rt_cover.specs.State.{added, add_fault, difference, is_registered, remove_fault, removed};
 
 use super::losses::{forms_of, lose_ended};
-use crate::state::{State, Told, send_change};
+use crate::state::{State, StepNews, send_change};
 use rt_cover::{Cover, Delta};
 use rt_query::Query;
 use rt_world::{
@@ -77,7 +77,7 @@ impl State {
 
     // A seat registers a listener: it has the next number, and is told at once where something is
     // known for its query.
-    pub(crate) fn listen(&mut self, seat: u64, query: Query) -> Result<Told, AllocError>
+    pub(crate) fn listen(&mut self, seat: u64, query: Query) -> Result<StepNews, AllocError>
         requires { IsReady self.old (Step.Listen seat query) }
         ensures { IfOk result (λ told. Makes self.old (Step.Listen seat query) self.new told) }
     {
@@ -99,7 +99,7 @@ impl State {
             .add(number, seat, query, &self.brought, pending, &mut notes)?;
         send_change(&mut self.outgoing, self.is_connected, delta)?;
         self.given_listeners = number;
-        Ok(Told {
+        Ok(StepNews {
             given: Some(number),
             notes,
         })
@@ -130,7 +130,7 @@ impl State {
     }
 
     // A seat ends a listener of its own: those are told whose views change since they are moved.
-    pub(crate) fn unlisten(&mut self, seat: u64, listener: u64) -> Result<Told, AllocError>
+    pub(crate) fn unlisten(&mut self, seat: u64, listener: u64) -> Result<StepNews, AllocError>
         requires { IsReady self.old (Step.Unlisten seat listener) }
         ensures { IfOk result (λ told. Makes self.old (Step.Unlisten seat listener) self.new told) }
     {
@@ -156,6 +156,6 @@ impl State {
         self.listeners
             .renew(&moved, &self.brought, pending, &mut notes)?;
         send_change(&mut self.outgoing, self.is_connected, delta)?;
-        Ok(Told { given: None, notes })
+        Ok(StepNews { given: None, notes })
     }
 }

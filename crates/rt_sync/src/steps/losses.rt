@@ -19,7 +19,7 @@ ghost use Rattle.rt_parts.specs.Renewed.{is_listened_at};
 ghost use Rattle.rt_sync.specs.inside.Moving.{is_of_path, has_others, is_lent, is_had, HaveSources, AreHad};
 ghost use Rattle.rt_sync.specs.inside.Moving.{has_come, had_cmp, had_of, is_moved_now, is_moved_among};
 
-use crate::state::{State, Told, send_change};
+use crate::state::{State, StepNews, send_change};
 use rt_cache::Brought;
 use rt_cover::{Cover, Delta, Kept, Revoked, apart_law};
 use rt_parts::Listeners;
@@ -473,7 +473,7 @@ impl State {
 
     // The server ends a listen: the listeners that it is the form of end, and their seats are told. Then
     // those are told whose views change since they are moved.
-    pub(crate) fn revoke(&mut self, tag: u64, why: Reason) -> Result<Told, AllocError>
+    pub(crate) fn revoke(&mut self, tag: u64, why: Reason) -> Result<StepNews, AllocError>
         requires { IsReady self.old (Step.Revoked tag why) }
         ensures { IfOk result (λ told. Makes self.old (Step.Revoked tag why) self.new told) }
     {
@@ -501,6 +501,6 @@ impl State {
         self.listeners
             .renew(&moved, &self.brought, pending, &mut notes)?;
         send_change(&mut self.outgoing, self.is_connected, done.delta)?;
-        Ok(Told { given: None, notes })
+        Ok(StepNews { given: None, notes })
     }
 }

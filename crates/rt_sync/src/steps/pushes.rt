@@ -16,7 +16,7 @@ ghost use Rattle.rt_world.specs.steps.Pushing.{is_within_listen};
 ghost use Rattle.rt_world.specs.laws.Made.{IsPushOn};
 ghost use Rattle.rt_sync.specs.inside.Pushed.{only_range, range_of};
 
-use crate::state::{State, Told};
+use crate::state::{State, StepNews};
 use rt_cache::Brought;
 use rt_cover::Cover;
 use rt_query::Query;
@@ -370,7 +370,7 @@ impl State {
 
     // Parts are pushed, each on the listen with its tag: they show together. What is pushed on a range alone
     // shows where that supplies.
-    pub(crate) fn take_push(&mut self, parts: Parts) -> Result<Told, AllocError>
+    pub(crate) fn take_push(&mut self, parts: Parts) -> Result<StepNews, AllocError>
         requires { IsReady self.old (Step.Push parts) }
         ensures { IfOk result (λ told. Makes self.old (Step.Push parts) self.new told) }
     {
@@ -389,11 +389,11 @@ impl State {
         let pending = self.requests.pending();
         self.listeners
             .refresh(range, &entries, &self.brought, pending, &mut notes)?;
-        Ok(Told { given: None, notes })
+        Ok(StepNews { given: None, notes })
     }
 
     // Several trees are pushed on one listen, as a part alone.
-    pub(crate) fn take_merge(&mut self, tag: u64, entries: Entries) -> Result<Told, AllocError>
+    pub(crate) fn take_merge(&mut self, tag: u64, entries: Entries) -> Result<StepNews, AllocError>
         requires { IsReady self.old (Step.DataMerge tag entries) }
         ensures { IfOk result (λ told. Makes self.old (Step.DataMerge tag entries) self.new told) }
     {
@@ -402,7 +402,12 @@ impl State {
     }
 
     // A tree is pushed at a path, as a merge of one.
-    pub(crate) fn take_data(&mut self, tag: u64, path: Path, tree: Tree) -> Result<Told, AllocError>
+    pub(crate) fn take_data(
+        &mut self,
+        tag: u64,
+        path: Path,
+        tree: Tree,
+    ) -> Result<StepNews, AllocError>
         requires { IsReady self.old (Step.Data tag path tree) }
         ensures { IfOk result (λ told. Makes self.old (Step.Data tag path tree) self.new told) }
     {

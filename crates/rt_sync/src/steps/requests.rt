@@ -10,7 +10,7 @@ ghost use Rattle.rt_world.specs.laws.Refused.{first_of};
 ghost use Rattle.rt_world.specs.declared.error.CoreError.TheVariants as CoreError;
 ghost use Rattle.rt_world.specs.declared.report.Body.TheVariants as Body;
 
-use crate::state::{State, Told, send_asked};
+use crate::state::{State, StepNews, send_asked};
 use rt_parts::Settled;
 use rt_world::{
     Action, Asked, Body, CoreError, Ending, Note, Reason, asked_law, brought_law, pending_law,
@@ -77,7 +77,7 @@ impl State {
     }
 
     // A seat writes: the write shows at once, and is asked for.
-    pub(crate) fn write(&mut self, seat: u64, action: Action) -> Result<Told, AllocError>
+    pub(crate) fn write(&mut self, seat: u64, action: Action) -> Result<StepNews, AllocError>
         requires { IsReady self.old (Step.Write seat action) }
         ensures { IfOk result (λ told. Makes self.old (Step.Write seat action) self.new told) }
     {
@@ -103,7 +103,7 @@ impl State {
         self.listeners
             .refresh(None, written, &self.brought, pending, &mut notes)?;
         self.given_requests = id;
-        Ok(Told {
+        Ok(StepNews {
             given: Some(id),
             notes,
         })
@@ -114,7 +114,7 @@ impl State {
         &mut self,
         seat: u64,
         ending: Ending,
-    ) -> Result<Told, AllocError>
+    ) -> Result<StepNews, AllocError>
         requires { IsReady self.old (Step.OnDisconnect seat ending) }
         ensures { IfOk result (λ told. Makes self.old (Step.OnDisconnect seat ending) self.new told) }
     {
@@ -130,7 +130,7 @@ impl State {
         self.requests.add(id, seat, asked)?;
         self.given_requests = id;
         let notes = Vec::new(alloc);
-        Ok(Told {
+        Ok(StepNews {
             given: Some(id),
             notes,
         })
@@ -198,7 +198,7 @@ impl State {
 
     // A request is accepted, or refused for a reason: what it wrote is pending no more, and its seat
     // is told first.
-    pub(crate) fn settle(&mut self, id: u64, why: Option<Reason>) -> Result<Told, AllocError>
+    pub(crate) fn settle(&mut self, id: u64, why: Option<Reason>) -> Result<StepNews, AllocError>
         requires { IsReady self.old (settling id why) }
         ensures { IfOk result (λ told. Makes self.old (settling id why) self.new told) }
     {
@@ -217,6 +217,6 @@ impl State {
         let entries = settled.entries.as_slice();
         self.listeners
             .refresh(None, entries, &self.brought, pending, &mut notes)?;
-        Ok(Told { given: None, notes })
+        Ok(StepNews { given: None, notes })
     }
 }

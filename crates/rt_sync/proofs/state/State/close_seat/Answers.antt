@@ -9,7 +9,7 @@ use Rattle.rt_world.specs.Covering.{cover_in}
 use Rattle.rt_world.specs.steps.Closing.{numbers_of}
 use Rattle.rt_parts.specs.Renewed.{all_told_of, renewed_of}
 use Rattle.rt_sync.specs.declared.state.State.{State}
-use Rattle.rt_sync.specs.declared.state.Told.{Told}
+use Rattle.rt_sync.specs.declared.state.StepNews.{StepNews}
 use Rattle.rt_sync.specs.inside.Losing.{AreMoved, forms_at, HasLost}
 use Rattle.rt_sync.specs.inside.StateView.{held_of, world_of}
 use Rattle.rt_sync.proofs.Listened.{close_just, close_made, closed_is, IsJust, left_views, tied_next}
@@ -60,7 +60,7 @@ returns c =
     let just : IsJust moved state.brought brought (filter test state.listeners.listeners) =
     close_just state c.following_law.ensures.cover c.requires.due.good.sound c.requires.tied c.args.seat c.deref-2.result.now numbers c.uncover.new.cover c.in_ok-delta.ensures.cover brought moved are in
     let writes : c.pending-pending.result.now ≡ pending state.requests = c.pending-pending.ensures ∙ ap pending c.close-2.ensures ∙ c.pending_law.ensures.unseated state.requests c.args.seat in
-    let said : Told = record { given = None; notes = c.renew.new.notes } in
+    let said : StepNews = record { given = None; notes = c.renew.new.notes } in
     let made =
     close_made state c.listened_law.ensures.close c.requires.tied c.args.seat c.requires.due c.deref-2.result.now numbers
     c.uncover.new.cover c.in_ok-delta.ensures.cover c.close-2.new.self c.close-2.ensures brought c.in_ok-moved.ensures.brought moved just c.pending-pending.result.now writes

@@ -9,7 +9,7 @@ use Rattle.rt_world.specs.Covering.{cover_in}
 use Rattle.rt_world.specs.After.{renewed}
 use Rattle.rt_world.specs.Met.{told}
 use Rattle.rt_sync.specs.declared.state.State.{State}
-use Rattle.rt_sync.specs.declared.state.Told.{Told}
+use Rattle.rt_sync.specs.declared.state.StepNews.{StepNews}
 use Rattle.rt_sync.specs.inside.StateView.{world_of}
 use Rattle.rt_sync.proofs.Listened.{added_is, listen_made, tied_next}
 use Rattle.rt_sync.proofs.TagLaws.{cover_tied}
@@ -39,7 +39,7 @@ returns c =
     let covers : c.cover_new.new.cover ≡ added state.cover (state.given_listeners + 1) c.args.query = c.in_ok-delta.ensures.cover ∙ ap (added state.cover (state.given_listeners + 1)) same in
     let delta : c.in_ok-delta.delta ≡ difference state.cover (added state.cover (state.given_listeners + 1) c.args.query) = c.in_ok-delta.ensures.delta ∙ ap (λ q. difference state.cover (added state.cover (state.given_listeners + 1) q)) same in
     let listed = c.in_ok-add.ensures.listeners ∙ ap (λ ws. state.listeners.listeners ++ renewed brought ws (new_listener (state.given_listeners + 1) c.args.seat c.args.query) ∷ []) pend in
-    let said : Told = record { given = Some (state.given_listeners + 1); notes = c.add.new.notes } in
+    let said : StepNews = record { given = Some (state.given_listeners + 1); notes = c.add.new.notes } in
     let made =
     listen_made state c.listened_law.ensures.listen c.requires.tied c.args.seat c.args.query c.requires.due c.cover_new.new.cover covers brought c.in_ok-register.ensures.ok
     c.add.new.self.listeners listed c.in_ok-delta.delta delta c.send_change.new.outgoing.items c.in_ok-send_change.ensures said refl

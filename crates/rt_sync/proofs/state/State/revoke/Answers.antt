@@ -11,7 +11,7 @@ use Rattle.rt_world.specs.declared.step.Step.{Step}
 use Rattle.rt_world.specs.World.{Listener}
 use Rattle.rt_world.specs.steps.Revoking.{is_cancelled}
 use Rattle.rt_sync.specs.declared.state.State.{State}
-use Rattle.rt_sync.specs.declared.state.Told.{Told}
+use Rattle.rt_sync.specs.declared.state.StepNews.{StepNews}
 use Rattle.rt_sync.specs.inside.Losing.{AreMoved}
 use Rattle.rt_sync.specs.inside.StateView.{held_of, world_of}
 use Rattle.rt_sync.specs.inside.Viewed.{all_in}
@@ -53,7 +53,7 @@ returns c =
     let are : AreMoved c.uncover_revoked.new.cover state.brought brought moved = subst (AreMoved c.uncover_revoked.new.cover state.brought brought) (sym lent) c.in_ok-moved.ensures.moved in
     let just : IsJust moved state.brought brought (filter of_form state.listeners.listeners) =
     revoke_just state c.following_law.ensures.cover c.requires.due.good.sound c.requires.tied c.args.tag c.args.why c.in_ok-form.form c.in_ok-form.ensures cover covers brought moved are in
-    let said : Told = record { given = None; notes = c.renew.new.notes } in
+    let said : StepNews = record { given = None; notes = c.renew.new.notes } in
     let made =
     revoke_made state c.listened_law.ensures.revoked c.requires.tied c.args.tag c.args.why c.requires.due c.in_ok-form.form c.in_ok-form.ensures
     cover covers brought c.in_ok-moved.ensures.brought moved just c.pending-pending.result.now c.pending-pending.ensures

@@ -6,7 +6,7 @@ use Rattle.rt_world.specs.declared.step.Step.{Step}
 use Rattle.rt_world.specs.World.{Listener}
 use Rattle.rt_parts.specs.Renewed.{all_told_of, renewed_of}
 use Rattle.rt_sync.specs.declared.state.State.{State}
-use Rattle.rt_sync.specs.declared.state.Told.{Told}
+use Rattle.rt_sync.specs.declared.state.StepNews.{StepNews}
 use Rattle.rt_sync.specs.inside.Losing.{AreMoved}
 use Rattle.rt_sync.specs.inside.StateView.{held_of, world_of}
 use Rattle.rt_sync.proofs.Listened.{IsJust, left_views, removed_is, unlisten_just, unlisten_made, tied_next}
@@ -41,7 +41,7 @@ returns c =
     let are : AreMoved c.uncover.new.cover state.brought brought moved = subst (AreMoved c.uncover.new.cover state.brought brought) (sym lent) c.in_ok-moved.ensures.moved in
     let just : IsJust moved state.brought brought (filter test state.listeners.listeners) =
     unlisten_just state c.following_law.ensures.cover c.requires.due.good.sound c.requires.tied c.args.seat c.args.listener c.uncover.new.cover c.in_ok-delta.ensures.cover brought moved are in
-    let said : Told = record { given = None; notes = c.renew.new.notes } in
+    let said : StepNews = record { given = None; notes = c.renew.new.notes } in
     let made =
     unlisten_made state c.listened_law.ensures.unlisten c.requires.tied c.args.seat c.args.listener c.requires.due c.uncover.new.cover c.in_ok-delta.ensures.cover brought c.in_ok-moved.ensures.brought
     moved just c.pending-pending.result.now c.pending-pending.ensures
