@@ -64,10 +64,12 @@ pub use errors::{
 };
 pub use ids::{PushIds, ids_are_keys, keys_rise};
 pub use link::{
-    Answer, Answered, Bell, Connection, Link, LinkEnd, LinkFault, Linked, Lost, Passed, Pushed,
-    Turn, Unpushed, link_crossing_law,
+    Answer, Answered, Bell, Connection, Link, LinkEnd, LinkFault, LinkTurn, Linked, Lost, Passed,
+    Pushed, Unpushed, link_crossing_law,
 };
-pub use messages::{Asked, ClientMessage, Held, Part, Parts, Peer, Reason, Sent, ServerMessage};
+pub use messages::{
+    Asked, ClientMessage, ConnectionLoad, Part, Parts, Peer, Reason, Sent, ServerMessage,
+};
 pub use queries::{Draft, Index, Limit, Mark, Query, Row, Shown, query_text};
 pub use steps::{
     Action, Answers, Body, Core, Ending, Kept, KeptList, Limits, NoRoom, Note, Notes, Outcome,
@@ -77,5 +79,7 @@ pub use told::{
     Batch, Change, Inbox, Item, Kinds, Mirror, Receipt, Snapshot, Snapshots, apply_changes,
     of_kinds,
 };
-pub use trees::{Entries, Key, Leaf, LeafRef, NoSlot, OrdMap, Path, Tree};
-pub use trees::{tree_from_value, tree_of_value, value_of_tree, write_leaf, write_tree};
+pub use trees::{
+    Entries, Key, Leaf, LeafRef, NoSlot, OrdMap, Path, Tree, tree_from_value, tree_of_value,
+    value_of_tree, write_leaf, write_tree,
+};

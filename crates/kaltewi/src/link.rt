@@ -236,11 +236,11 @@ pub use rt_link::link_crossing_law;
 ///     Connection::new(rt, alloc, random, stream, "ws://127.0.0.1/")
 /// }
 ///
-/// fn pause_after(turn: &Turn) -> Option<Duration> {
+/// fn pause_after(turn: &LinkTurn) -> Option<Duration> {
 ///     match turn {
-///         Turn::Idle(most) => Some(*most),
-///         Turn::More => Some(Duration::ZERO),
-///         Turn::NotOpened(_) | Turn::Ended(_) => None,
+///         LinkTurn::Idle(most) => Some(*most),
+///         LinkTurn::More => Some(Duration::ZERO),
+///         LinkTurn::NotOpened(_) | LinkTurn::Ended(_) => None,
 ///     }
 /// }
 ///

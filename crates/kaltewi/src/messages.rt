@@ -148,7 +148,7 @@ pub use rt_peer::Peer;
 /// How many listens a connection of a [`Peer`] has, and how many requests for its end.
 ///
 /// ```rust
-/// fn held(peer: &Peer, connection: u64) -> Held {
+/// fn held(peer: &Peer, connection: u64) -> ConnectionLoad {
 ///     peer.held(connection)
 /// }
 /// ```

@@ -26,7 +26,7 @@ use Rattle.rt_view.specs.contracts.children.ChildChain as known
 use Rattle.rt_view.specs.contracts.children.Ranged as ranged
 use Rattle.rt_view.specs.contracts.window.OrderedChildren as shown
 use Rattle.rt_view.specs.contracts.view.View as view
-use Rattle.rt_parts.specs.contracts.listeners.Held as listening
+use Rattle.rt_parts.specs.contracts.listeners.HeldListener as listening
 use Rattle.rt_parts.specs.contracts.listeners.Listeners as listeners
 use Rattle.rt_world.specs.contracts.step.Request as request
 use Rattle.rt_parts.specs.contracts.requests.Requests as requests

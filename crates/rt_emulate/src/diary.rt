@@ -6,7 +6,7 @@ ghost use Rattle.rt_emulate.specs.Diaries.{line_of, secs_at, without_line};
 ghost use Rattle.rt_emulate.specs.Levels.{says};
 ghost use Rattle.rt_emulate.specs.declared.settings.Kind.TheVariants as kinds;
 
-use crate::ending::Ending;
+use crate::ending::GuestEnd;
 use crate::settings::{Kind, Level};
 use crate::stamp::{Stamp, stamp};
 use rt_input::{LOG_PREFIX, Log, push_plain};
@@ -301,13 +301,13 @@ pub(crate) fn no_socket(alloc: Global, log: &mut Diary, from: SocketAddr, why: &
 }
 
 // Why one goes that hasn't shaken hands, unless it was told when its handshake failed.
-pub(crate) fn unshaken(alloc: Global, log: &mut Diary, from: SocketAddr, why: Ending) {
+pub(crate) fn unshaken(alloc: Global, log: &mut Diary, from: SocketAddr, why: GuestEnd) {
     if log.says(Kind::Connection) && !why.is_told() {
         strange(alloc, log, from, &why);
     }
 }
 
-pub(crate) fn ended(alloc: Global, log: &mut Diary, connection: u64, why: Ending) {
+pub(crate) fn ended(alloc: Global, log: &mut Diary, connection: u64, why: GuestEnd) {
     say_of(alloc, log, Kind::Connection, connection, "ends: ", &why);
 }
 

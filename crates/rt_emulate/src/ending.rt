@@ -22,7 +22,7 @@ use std::marker::Model;
 
 /// Why a guest goes.
 #[derive(Clone, Copy)]
-pub(crate) enum Ending {
+pub(crate) enum GuestEnd {
     /// It closed the connection, with that code or with none.
     Closed(Option<u16>),
     /// A read of its stream failed, or found its end.
@@ -47,12 +47,12 @@ pub(crate) enum Ending {
     Stopped,
 }
 
-impl Ending {
+impl GuestEnd {
     /// Whether nothing is told once the guest goes: it was told before, or all went well.
     pub(crate) fn is_told(self) -> bool
         ensures { result ≡ is_told self }
     {
-        matches!(self, Ending::Refused | Ending::Answered)
+        matches!(self, GuestEnd::Refused | GuestEnd::Answered)
     }
 
     /// The code that RFC 6455 (section 7.4.1) has for the client, where it is told why: as at
@@ -62,16 +62,16 @@ impl Ending {
         ensures { result ≡ close_code self }
     {
         match self {
-            Ending::Failed(why) => why.close_code(),
-            Ending::Stopped => Some(1001),
-            Ending::TooManyListens => Some(1008),
-            Ending::Over | Ending::Crowding => Some(1013),
-            Ending::Closed(_)
-            | Ending::Refused
-            | Ending::Silent
-            | Ending::Unshaken
-            | Ending::Answered
-            | Ending::Stalled => None,
+            GuestEnd::Failed(why) => why.close_code(),
+            GuestEnd::Stopped => Some(1001),
+            GuestEnd::TooManyListens => Some(1008),
+            GuestEnd::Over | GuestEnd::Crowding => Some(1013),
+            GuestEnd::Closed(_)
+            | GuestEnd::Refused
+            | GuestEnd::Silent
+            | GuestEnd::Unshaken
+            | GuestEnd::Answered
+            | GuestEnd::Stalled => None,
         }
     }
 
@@ -80,41 +80,41 @@ impl Ending {
         ensures { result.now ≡ close_reason self }
     {
         match self {
-            Ending::TooManyListens => "more than 131072 listens",
-            Ending::Over => "too slow: more waits than may",
-            Ending::Crowding => "too slow: more than 134217728 bytes wait for all clients",
-            Ending::Closed(_)
-            | Ending::Failed(_)
-            | Ending::Refused
-            | Ending::Silent
-            | Ending::Unshaken
-            | Ending::Answered
-            | Ending::Stalled
-            | Ending::Stopped => "",
+            GuestEnd::TooManyListens => "more than 131072 listens",
+            GuestEnd::Over => "too slow: more waits than may",
+            GuestEnd::Crowding => "too slow: more than 134217728 bytes wait for all clients",
+            GuestEnd::Closed(_)
+            | GuestEnd::Failed(_)
+            | GuestEnd::Refused
+            | GuestEnd::Silent
+            | GuestEnd::Unshaken
+            | GuestEnd::Answered
+            | GuestEnd::Stalled
+            | GuestEnd::Stopped => "",
         }
     }
 }
 
 /// Why one goes whose stream has ended so, that has asked by plain HTTP or hasn't.
-pub(crate) fn stream_ending(has_asked: bool, why: Broken) -> Ending
+pub(crate) fn stream_ending(has_asked: bool, why: Broken) -> GuestEnd
     ensures { result ≡ stream_ending has_asked why }
 {
     if has_asked {
-        Ending::Answered
+        GuestEnd::Answered
     } else {
-        Ending::Failed(why)
+        GuestEnd::Failed(why)
     }
 }
 
 /// Why the connection goes, if it has more listens than it may or more waits for it than may.
-pub(crate) fn too_much(hub: &Hub, connection: u64) -> Option<Ending>
+pub(crate) fn too_much(hub: &Hub, connection: u64) -> Option<GuestEnd>
     ensures { result ≡ too_much (has_too_many_in hub.now connection)
         (option_map_or (λ l. l.is_over) (line_in hub.now connection) false) }
 {
     if hub.has_too_many_listens(connection) {
-        Some(Ending::TooManyListens)
+        Some(GuestEnd::TooManyListens)
     } else if hub.is_over(connection) {
-        Some(Ending::Over)
+        Some(GuestEnd::Over)
     } else {
         None
     }
@@ -128,44 +128,44 @@ fn write_broken<W: fmt::Write>(f: &mut fmt::Formatter<W>, why: Broken) -> fmt::R
     }
 }
 
-impl fmt::Display for Ending {
+impl fmt::Display for GuestEnd {
     fn fmt<W: fmt::Write>(&self, f: &mut fmt::Formatter<W>) -> fmt::Result {
         let words = match self {
-            Ending::Closed(None) => "the client closed it",
-            Ending::Closed(Some(code)) => {
+            GuestEnd::Closed(None) => "the client closed it",
+            GuestEnd::Closed(Some(code)) => {
                 return write!(f, "the client closed it with {code}{}", or_unknown(*code));
             }
-            Ending::Failed(why) => return write_broken(f, *why),
-            Ending::Refused => "its handshake failed",
-            Ending::Over => {
+            GuestEnd::Failed(why) => return write_broken(f, *why),
+            GuestEnd::Refused => "its handshake failed",
+            GuestEnd::Over => {
                 return write!(
                     f,
                     "it is too slow: more than {MAX_WAITING_MESSAGES} messages or {MAX_WAITING_BYTES} \
                      bytes wait for it"
                 );
             }
-            Ending::Crowding => {
+            GuestEnd::Crowding => {
                 return write!(
                     f,
                     "it is the slowest, and more than {MAX_WAITING_IN_ALL} bytes wait for all"
                 );
             }
-            Ending::TooManyListens => {
+            GuestEnd::TooManyListens => {
                 return write!(
                     f,
                     "it has more than {MAX_LISTENS} listens; it is closed with 1008"
                 );
             }
-            Ending::Silent => {
+            GuestEnd::Silent => {
                 return write!(
                     f,
                     "nothing is heard of it, for {SILENCE_MS} ms after a ping"
                 );
             }
-            Ending::Unshaken => return write!(f, "no handshake in {HANDSHAKE_MS} ms"),
-            Ending::Answered => "it was answered",
-            Ending::Stalled => "its request or its answer stands still",
-            Ending::Stopped => "the server stops; it is closed with 1001",
+            GuestEnd::Unshaken => return write!(f, "no handshake in {HANDSHAKE_MS} ms"),
+            GuestEnd::Answered => "it was answered",
+            GuestEnd::Stalled => "its request or its answer stands still",
+            GuestEnd::Stopped => "the server stops; it is closed with 1001",
         };
         f.write_str(words)
     }

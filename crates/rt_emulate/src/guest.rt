@@ -14,7 +14,7 @@ ghost use Rattle.rt_emulate.specs.inside.Alarms.{HasRung, WaitsBeyond, alarm, ne
 
 use crate::calls::{OnWay, Replay};
 use crate::diary::{self, Diary};
-use crate::ending::Ending;
+use crate::ending::GuestEnd;
 use crate::origins::Judge;
 use crate::requests::Asking;
 use crate::settings::Halt;
@@ -40,12 +40,12 @@ pub(crate) enum Turned {
     /// There may be more.
     More,
     /// It goes.
-    Ends(Ending),
+    Ends(GuestEnd),
 }
 
 /// What became of a guest that may be owed the text that says who is connected.
 #[derive(Clone, Copy)]
-pub(crate) enum Told {
+pub(crate) enum TextSent {
     /// It is owed none, or takes none now.
     Nothing,
     /// It is on its way.
@@ -159,7 +159,7 @@ impl Talk {
         self.count_unsent(on_way)?;
         match answered {
             Ok(true) => Ok(None),
-            Ok(false) => Ok(Some(Turned::Ends(Ending::Over))),
+            Ok(false) => Ok(Some(Turned::Ends(GuestEnd::Over))),
             Err(_) => Err(Halt::NoMemory),
         }
     }
@@ -235,22 +235,22 @@ impl Talk {
 
     /// Sends the text that says who is connected, which has that number, where it is owed that and its stream
     /// has taken all that came before: so one that is slow is told the newest alone.
-    pub(crate) fn tell(&mut self, text: &str, version: u64) -> Result<Told, AllocError>
+    pub(crate) fn tell(&mut self, text: &str, version: u64) -> Result<TextSent, AllocError>
         ensures { IfOk result (λ said. Tells text.now version self.old said self.new) }
     {
         if !self.is_told_now(version) {
-            return Ok(Told::Nothing);
+            return Ok(TextSent::Nothing);
         }
         self.told = Some(version);
         if self.socket.put(text)? {
-            Ok(Told::Text)
+            Ok(TextSent::Text)
         } else {
-            Ok(Told::Failed)
+            Ok(TextSent::Failed)
         }
     }
 
     // It ends, and its client is told why by a code, where there is one. Answers its number.
-    fn end(&mut self, why: Ending) -> u64
+    fn end(&mut self, why: GuestEnd) -> u64
         ensures { result ≡ self.old.connection }
     {
         if let Some(code) = why.close_code() {
@@ -451,15 +451,15 @@ impl Guest {
     }
 
     /// Its alarm rings. Answers when it rings next, or why it goes.
-    pub(crate) fn ring(&mut self, now: u64) -> Result<u64, Ending>
+    pub(crate) fn ring(&mut self, now: u64) -> Result<u64, GuestEnd>
         ensures rung { result ≡ rung self.old now }
         ensures silence { self.new.silence ≡ silence_after self.old now }
     {
         match &mut self.stage {
             Stage::Asking(asking) => asking.ring(now),
-            Stage::Shaking(_) | Stage::Gone => Err(Ending::Unshaken),
+            Stage::Shaking(_) | Stage::Gone => Err(GuestEnd::Unshaken),
             Stage::Open(talk) => match self.silence.due(now) {
-                Due::End => Err(Ending::Silent),
+                Due::End => Err(GuestEnd::Silent),
                 Due::Ping => {
                     talk.socket.ping();
                     self.silence = self.silence.pinged(now);
@@ -472,7 +472,7 @@ impl Guest {
 
     /// It goes, and its client is told why by a code, where there is one. Answers the number of its
     /// connection, if it was one.
-    pub(crate) fn end(mut self, why: Ending) -> Option<u64>
+    pub(crate) fn end(mut self, why: GuestEnd) -> Option<u64>
         ensures { result ≡ number_of self.stage }
     {
         match self.talk() {
@@ -488,7 +488,7 @@ fn unshaken(alloc: Global, from: SocketAddr, why: Error, log: &mut Diary) -> Res
     if Broken::of(why).lacks_memory() {
         Err(Halt::NoMemory)
     } else {
-        Ok(Turned::Ends(Ending::Refused))
+        Ok(Turned::Ends(GuestEnd::Refused))
     }
 }
 

@@ -2,7 +2,7 @@
 ghost use Rattle.std.specs.Prelude.{◌≡◌, [], None, Ok, IfOk, OnOk, true};
 ghost use Rattle.std.specs.Option.{option_map_or};
 ghost use Rattle.rt_emulate.specs.Clients.{clients_text};
-ghost use Rattle.rt_emulate.specs.declared.ending.Ending.TheVariants.{Stopped};
+ghost use Rattle.rt_emulate.specs.declared.ending.GuestEnd.TheVariants.{Stopped};
 ghost use Rattle.rt_emulate.specs.inside.Guests.{HandsAt, NotesEach, asking_at, talk_at};
 ghost use Rattle.rt_emulate.specs.inside.Requests.{stopped_of};
 ghost use Rattle.rt_emulate.specs.inside.Rosters.{RenewsIf, clients_of, is_due};
@@ -10,9 +10,9 @@ ghost use Rattle.rt_emulate.specs.inside.Rosters.{RenewsIf, clients_of, is_due};
 use crate::calls::OnWay;
 use crate::diary::{self, Diary};
 use crate::edge::Keys;
-use crate::ending::{Ending, Leaving, too_much};
+use crate::ending::{GuestEnd, Leaving, too_much};
 use crate::fault::EmulateFault;
-use crate::guest::{Guest, Told, Turned};
+use crate::guest::{Guest, TextSent, Turned};
 use crate::keeper::Keeper;
 use crate::origins::Judge;
 use crate::place::set_place;
@@ -386,7 +386,7 @@ impl Guests {
 
     // Hands over to the guest at that place what waits for it, and tells it who is connected, where it is
     // owed that. Answers why it goes, if it does.
-    fn serve(&mut self, place: usize, log: &mut Diary) -> Result<Option<Ending>, Halt> {
+    fn serve(&mut self, place: usize, log: &mut Diary) -> Result<Option<GuestEnd>, Halt> {
         match self.hand_over_to(place, log)? {
             Some(why) => Ok(Some(why)),
             None => self.tell(place),
@@ -396,7 +396,7 @@ impl Guests {
     // Tells the guest at that place who is connected, where it is owed that: what it is told goes out next.
     // Nobody is told a text that is to be made anew, since one that asks may not stand in it. The guest goes
     // where memory lacks for it, and nobody else does. Answers why, if it does.
-    fn tell(&mut self, place: usize) -> Result<Option<Ending>, Halt>
+    fn tell(&mut self, place: usize) -> Result<Option<GuestEnd>, Halt>
         ensures hub { self.new.hub ≡ self.old.hub }
         ensures kept { self.new.roster ≡ self.old.roster }
         ensures untold { talk_at self.old.present place ≡ None → result ≡ Ok None }
@@ -409,13 +409,13 @@ impl Guests {
             return Ok(None);
         };
         match talk.tell(self.roster.text.as_str(), self.roster.version) {
-            Ok(Told::Nothing) => Ok(None),
-            Ok(Told::Text | Told::Failed) => {
+            Ok(TextSent::Nothing) => Ok(None),
+            Ok(TextSent::Text | TextSent::Failed) => {
                 talk.count_unsent(&mut self.on_way)?;
                 self.present.note(place)?;
                 Ok(None)
             }
-            Err(_) => Ok(Some(Ending::Failed(Broken::NoMemory))),
+            Err(_) => Ok(Some(GuestEnd::Failed(Broken::NoMemory))),
         }
     }
 
@@ -440,7 +440,7 @@ impl Guests {
     }
 
     // Hands over to the guest at that place what waits for it. Answers why it goes, if it does.
-    fn hand_over_to(&mut self, place: usize, log: &mut Diary) -> Result<Option<Ending>, Halt>
+    fn hand_over_to(&mut self, place: usize, log: &mut Diary) -> Result<Option<GuestEnd>, Halt>
         ensures { IfOk result (λ why. HandsAt (talk_at self.old.present place) why
             self.old.hub self.new.hub) }
     {
@@ -469,7 +469,7 @@ impl Guests {
                 return Ok(());
             };
             if let Some(place) = self.present.guest_of(connection) {
-                self.remove(place, Ending::Crowding, log)?;
+                self.remove(place, GuestEnd::Crowding, log)?;
             }
             if self.leaving.is_empty() {
                 return Ok(());
@@ -480,7 +480,7 @@ impl Guests {
     }
 
     // The guest at that place goes.
-    fn remove(&mut self, place: usize, why: Ending, log: &mut Diary) -> Result<(), Halt> {
+    fn remove(&mut self, place: usize, why: GuestEnd, log: &mut Diary) -> Result<(), Halt> {
         let Some(guest) = self.present.all.try_remove(place) else {
             return Ok(());
         };
@@ -495,7 +495,7 @@ impl Guests {
     }
 
     // The connection ends, in turns.
-    fn leave(&mut self, connection: u64, why: Ending, log: &mut Diary) -> Result<(), Halt> {
+    fn leave(&mut self, connection: u64, why: GuestEnd, log: &mut Diary) -> Result<(), Halt> {
         diary::ended(self.alloc, log, connection, why);
         self.roster.end(connection);
         self.on_way.set(connection, 0)?;
@@ -598,12 +598,12 @@ impl Guests {
     }
 
     // Why the guest at that place goes where all are ended.
-    fn stopped(&mut self, place: usize) -> Ending
+    fn stopped(&mut self, place: usize) -> GuestEnd
         ensures { result ≡ option_map_or stopped_of (asking_at self.old.present place) Stopped }
     {
         match self.present.asking(place) {
             Some(asking) => asking.stopped(),
-            None => Ending::Stopped,
+            None => GuestEnd::Stopped,
         }
     }
 }

@@ -16,7 +16,7 @@ ghost use Rattle.rt_emulate.specs.declared.requests.Next.TheVariants as step;
 
 use crate::calls::{Replay, Reply, answer_to, page_of, prepare, put_reply, wished};
 use crate::edge::Keys;
-use crate::ending::{Ending, stream_ending};
+use crate::ending::{GuestEnd, stream_ending};
 use crate::keeper::Keeper;
 use crate::page::page_at;
 use crate::settings::Halt;
@@ -58,7 +58,7 @@ pub(crate) enum Next {
     /// It becomes a WebSocket: the head of its handshake has so many bytes.
     Upgrade(usize),
     /// It goes.
-    Ends(Ending),
+    Ends(GuestEnd),
 }
 
 /// One that asks by plain HTTP, or has said nothing yet.
@@ -152,7 +152,7 @@ impl Asking {
     fn write_on(&mut self) -> Next {
         let from = self.written.min(self.out.len());
         match self.stream.write(&self.out[from..]) {
-            Ok(0) => Next::Ends(Ending::Answered),
+            Ok(0) => Next::Ends(GuestEnd::Answered),
             Ok(count) => {
                 self.has_moved = true;
                 self.written = self.written.saturating_add(count);
@@ -175,7 +175,7 @@ impl Asking {
             return Next::Again;
         };
         match rest.put_piece(&mut self.out) {
-            Ok(0) => Next::Ends(Ending::Answered),
+            Ok(0) => Next::Ends(GuestEnd::Answered),
             Ok(_) => {
                 if rest.is_over() {
                     self.rest = None;
@@ -191,11 +191,11 @@ impl Asking {
         let mut bytes = [0; READ_BYTES];
         let _shut = self.stream.shutdown(Shutdown::Write);
         match self.stream.read(&mut bytes) {
-            Ok(0) => Next::Ends(Ending::Answered),
+            Ok(0) => Next::Ends(GuestEnd::Answered),
             Ok(count) => {
                 self.left = Some(left.saturating_sub(count));
                 if left <= count {
-                    Next::Ends(Ending::Answered)
+                    Next::Ends(GuestEnd::Answered)
                 } else {
                     Next::Again
                 }
@@ -223,7 +223,7 @@ impl Asking {
         ensures { result ≡ unheard_of self.now.has_asked (broken_of (error.Io why)) }
     {
         match stuck(why) {
-            Next::Ends(Ending::Failed(why)) => Next::Ends(stream_ending(self.has_asked, why)),
+            Next::Ends(GuestEnd::Failed(why)) => Next::Ends(stream_ending(self.has_asked, why)),
             next => next,
         }
     }
@@ -453,7 +453,7 @@ impl Asking {
     }
 
     /// Its alarm rings. Answers when it rings next, or why it goes.
-    pub(crate) fn ring(&self, now: u64) -> Result<u64, Ending>
+    pub(crate) fn ring(&self, now: u64) -> Result<u64, GuestEnd>
         ensures { result ≡ rung self.now now }
     {
         let awaited = self.awaited();
@@ -464,13 +464,13 @@ impl Asking {
     }
 
     /// Why it goes where all are ended: one that was answered goes in silence.
-    pub(crate) fn stopped(&self) -> Ending
+    pub(crate) fn stopped(&self) -> GuestEnd
         ensures { result ≡ stopped_of self.now }
     {
         if self.has_asked {
-            Ending::Answered
+            GuestEnd::Answered
         } else {
-            Ending::Stopped
+            GuestEnd::Stopped
         }
     }
 
@@ -513,7 +513,7 @@ fn stuck(why: io::Error) -> Next
     } else if why.is_interrupted() {
         Next::Again
     } else {
-        Next::Ends(Ending::Failed(why))
+        Next::Ends(GuestEnd::Failed(why))
     }
 }
 
@@ -550,19 +550,19 @@ impl Awaited {
     }
 
     /// Why one goes that was waited for too long, and that has asked for something or hasn't.
-    pub(crate) fn ending(self, has_asked: bool) -> Ending
+    pub(crate) fn ending(self, has_asked: bool) -> GuestEnd
         ensures { result ≡ late_of self has_asked }
     {
         match self {
             Awaited::Request => {
                 if has_asked {
-                    Ending::Stalled
+                    GuestEnd::Stalled
                 } else {
-                    Ending::Unshaken
+                    GuestEnd::Unshaken
                 }
             }
-            Awaited::Taking => Ending::Stalled,
-            Awaited::Next | Awaited::Leaving => Ending::Answered,
+            Awaited::Taking => GuestEnd::Stalled,
+            Awaited::Next | Awaited::Leaving => GuestEnd::Answered,
         }
     }
 

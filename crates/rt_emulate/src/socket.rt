@@ -9,7 +9,7 @@ ghost use Rattle.rt_emulate.specs.inside.Sockets.{code_in, judged, heard_of, kep
 ghost use Rattle.rt_emulate.specs.inside.Sockets.{unsent_by, unsent_with};
 
 use crate::calls::Replay;
-use crate::ending::Ending;
+use crate::ending::GuestEnd;
 use rt_hub::{Door, DoorRead, Flushed, MAX_WAITING_BYTES};
 use rt_input::Counted;
 use rt_wire::is_crowded;
@@ -117,13 +117,13 @@ impl Socket {
     }
 
     /// Why it has ended.
-    pub(crate) fn ending(&self) -> Ending
+    pub(crate) fn ending(&self) -> GuestEnd
         ensures { result ≡ ending_of self.now.closed self.now.why }
     {
         match (self.closed, self.why) {
-            (Some(code), _) => Ending::Closed(code),
-            (None, Some(why)) => Ending::Failed(why),
-            (None, None) => Ending::Failed(Broken::Closed),
+            (Some(code), _) => GuestEnd::Closed(code),
+            (None, Some(why)) => GuestEnd::Failed(why),
+            (None, None) => GuestEnd::Failed(Broken::Closed),
         }
     }
 

@@ -9,8 +9,8 @@ ghost use Rattle.rt_mail.specs.Mirrors.{Takes, has_failed, children_in, listener
 ghost use Rattle.rt_view.specs.Changes.{replay};
 ghost use Rattle.rt_mail.specs.inside.Places.{does_stand, after_changes, numbers_of};
 ghost use Rattle.rt_mail.specs.laws.Replays.{Rise};
-ghost use Rattle.rt_mail.specs.Snapshots.{seen_of, shown_to, begun, shows, ended, signed, after_item};
-ghost use Rattle.rt_mail.specs.Snapshots.{tree_told, shown_of};
+ghost use Rattle.rt_mail.specs.Snapshots.{seen_of, shown_to, begun, shows, ended, after_item};
+ghost use Rattle.rt_mail.specs.Snapshots.{signed as signed_shown, tree_told, shown_of};
 
 use crate::error::MailError;
 use crate::item::{Item, Receipt};
@@ -522,7 +522,7 @@ impl Snapshots {
 
     // Takes a receipt.
     fn sign(&mut self, receipt: &Receipt) -> Result<(), AllocError>
-        ensures signed { OnOk result (self.new ≡ signed self.old receipt.now) }
+        ensures signed { OnOk result (self.new ≡ signed_shown self.old receipt.now) }
         ensures unchanged { IfErr result (λ _. self.new ≡ self.old) }
     {
         match receipt {

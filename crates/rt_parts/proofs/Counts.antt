@@ -8,7 +8,7 @@ use Rattle.rt_writes.specs.Writes.{Write}
 use Rattle.rt_cache.specs.Brought.{Brought}
 use Rattle.rt_view.specs.Views.{View}
 use Rattle.rt_world.specs.World.{Listener}
-use Rattle.rt_parts.specs.declared.listeners.Held.{Held}
+use Rattle.rt_parts.specs.declared.listeners.HeldListener.{HeldListener}
 use Rattle.rt_parts.specs.Listeners.{count_if, count_with, counts_left, own_count}
 use Rattle.rt_parts.specs.inside.HeldView.{all_of, counted_of, counts_of, listener_of, listeners_of, pair_of, views_of}
 use Rattle.rt_parts.specs.Renewed.{count_of}
@@ -56,12 +56,12 @@ module _ (f : Pair → Pair) (due : Pair → Bool) where
       ∙ sym (by.changed_step counted_number counted_on untold (λ (t : Counted). stays t.0) n (drop (i + 1) numbers) ts (later numbers i n within at rise))
       ∙ ap (λ ns. counts_in ns ts) (sym (drop_is numbers i n within at)) ∙ inv
 
-  all_counted : (P : Pair → Type 0) (ls : List Held) → All P (map pair_of ls) → All (λ (t : Counted). P t.0) (map counted_of ls)
+  all_counted : (P : Pair → Type 0) (ls : List HeldListener) → All P (map pair_of ls) → All (λ (t : Counted). P t.0) (map counted_of ls)
   all_counted P [] h = λ k d lt. absurd (omega arith)
   all_counted P (l ∷ ls) h = All-cons (λ (t : Counted). P t.0) (counted_of l) (map counted_of ls) (All-head P (pair_of l) (map pair_of ls) h) (all_counted P ls (All-tail P (pair_of l) (map pair_of ls) h))
 
   -- where the numbers of all that are due are given, all are changed
-  pub counts_in_all : ((p : Pair) → due p ≡ false → f p ≡ p) → (numbers : List ℕ) (ls : List Held) → All (λ (p : Pair). due p ≡ true → list_any (λ n. p.0.number == n) numbers ≡ true) (map pair_of ls)
+  pub counts_in_all : ((p : Pair) → due p ≡ false → f p ≡ p) → (numbers : List ℕ) (ls : List HeldListener) → All (λ (p : Pair). due p ≡ true → list_any (λ n. p.0.number == n) numbers ≡ true) (map pair_of ls)
       → counts_in numbers (map counted_of ls) ≡ map counted_on (map counted_of ls)
   counts_in_all others numbers ls h =
       by.changed_all counted_number counted_on untold (λ (t : Counted). due t.0) numbers (map counted_of ls) others_on
@@ -71,25 +71,25 @@ module _ (f : Pair → Pair) (due : Pair → Bool) where
       others_on t e = λ i. (others t.0 e i, count_if (e i) t.1 (f t.0).1)
 
   -- the counts of all
-  pub all_counts : (old new : List Held) → map counted_of new ≡ map counted_on (map counted_of old)
+  pub all_counts : (old new : List HeldListener) → map counted_of new ≡ map counted_on (map counted_of old)
       → counts_of new ≡ map (λ (t : Counted). count_if (due t.0) t.1 (f t.0).1) (zip (zip (listeners_of old) (views_of old)) (counts_of old))
   all_counts old new e = read new ∙ ap (map (λ (t : Counted). t.1)) e ∙ each old
     where
-      read : (ls : List Held) → counts_of ls ≡ map (λ (t : Counted). t.1) (map counted_of ls)
+      read : (ls : List HeldListener) → counts_of ls ≡ map (λ (t : Counted). t.1) (map counted_of ls)
       read [] = refl
       read (l ∷ ls) = ap (λ z. l.count ∷ z) (read ls)
 
-      each : (ls : List Held) → map (λ (t : Counted). t.1) (map counted_on (map counted_of ls)) ≡ map (λ (t : Counted). count_if (due t.0) t.1 (f t.0).1) (zip (zip (listeners_of ls) (views_of ls)) (counts_of ls))
+      each : (ls : List HeldListener) → map (λ (t : Counted). t.1) (map counted_on (map counted_of ls)) ≡ map (λ (t : Counted). count_if (due t.0) t.1 (f t.0).1) (zip (zip (listeners_of ls) (views_of ls)) (counts_of ls))
       each [] = refl
       each (l ∷ ls) = ap (λ z. count_if (due (pair_of l)) l.count (f (pair_of l)).1 ∷ z) (each ls)
 
 -- one that is changed, with its count
-pub changed_count : (f : Pair → Pair) (due : Bool) (old new : Held) → pair_of new ≡ f (pair_of old) → new.count ≡ count_if due old.count new.view
+pub changed_count : (f : Pair → Pair) (due : Bool) (old new : HeldListener) → pair_of new ≡ f (pair_of old) → new.count ≡ count_if due old.count new.view
     → counted_of new ≡ (f (pair_of old), count_if due old.count (f (pair_of old)).1)
 changed_count f due old new e c = λ i. (e i, (c ∙ ap (λ (p : Pair). count_if due old.count p.1) e) i)
 
 -- where no pair has the number, none has it with its count
-pub none_counted : (n : ℕ) (ls : List Held) → All (λ (p : Pair). (number_of p == n) ≡ false) (map pair_of ls) → All (λ (t : Counted). (counted_number t == n) ≡ false) (map counted_of ls)
+pub none_counted : (n : ℕ) (ls : List HeldListener) → All (λ (p : Pair). (number_of p == n) ≡ false) (map pair_of ls) → All (λ (t : Counted). (counted_number t == n) ≡ false) (map counted_of ls)
 none_counted n [] h = λ k d lt. absurd (omega arith)
 none_counted n (l ∷ ls) h =
     All-cons (λ (t : Counted). (counted_number t == n) ≡ false) (counted_of l) (map counted_of ls) (All-head (λ (p : Pair). (number_of p == n) ≡ false) (pair_of l) (map pair_of ls) h)
@@ -97,7 +97,7 @@ none_counted n (l ∷ ls) h =
 
 -- ---- listeners that end
 
-pub counts_filter : (test : Listener → Bool) (held : List Held) → counts_of (filter (λ h. test (listener_of h)) held) ≡ counts_left test (all_of held)
+pub counts_filter : (test : Listener → Bool) (held : List HeldListener) → counts_of (filter (λ h. test (listener_of h)) held) ≡ counts_left test (all_of held)
 counts_filter test [] = refl
 counts_filter test (h ∷ hs) =
     elim (test (listener_of h)) as (λ b. counts_of (cond b (h ∷ filter (λ h. test (listener_of h)) hs) (filter (λ h. test (listener_of h)) hs)) ≡ cons_option (cond b (Some h.count) None) (filter_map (own_count test) (zip (listeners_of hs) (counts_of hs)))) [
@@ -107,12 +107,12 @@ counts_filter test (h ∷ hs) =
 
 -- ---- one more
 
-pub counts_more : (held : List Held) (l : Held) → counts_of (held ++ l ∷ []) ≡ counts_of held ++ l.count ∷ []
+pub counts_more : (held : List HeldListener) (l : HeldListener) → counts_of (held ++ l ∷ []) ≡ counts_of held ++ l.count ∷ []
 counts_more [] l = refl
 counts_more (h ∷ hs) l = ap (λ cs. h.count ∷ cs) (counts_more hs l)
 
 -- ---- for no query
 
-pub none_counts : (b : Brought) (writes : List Write) (ls : List Held) → counts_of ls ≡ map (count_of [] b writes) (zip (zip (listeners_of ls) (views_of ls)) (counts_of ls))
+pub none_counts : (b : Brought) (writes : List Write) (ls : List HeldListener) → counts_of ls ≡ map (count_of [] b writes) (zip (zip (listeners_of ls) (views_of ls)) (counts_of ls))
 none_counts b writes [] = refl
 none_counts b writes (l ∷ ls) = ap (λ z. l.count ∷ z) (none_counts b writes ls)

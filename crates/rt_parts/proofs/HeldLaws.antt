@@ -9,7 +9,7 @@ use Rattle.std.proofs.lemmas.List.Quantifiers.{all_pairs_push}
 use Rattle.std.proofs.lemmas.List.{get_or-map, length-map}
 use Rattle.rt_world.specs.Answers.{view_before}
 use Rattle.rt_world.specs.World.{Listener}
-use Rattle.rt_parts.specs.declared.listeners.Held.{Held}
+use Rattle.rt_parts.specs.declared.listeners.HeldListener.{HeldListener}
 use Rattle.rt_parts.specs.Listeners.{views_left, views_where}
 use Rattle.rt_parts.specs.inside.HeldView.{all_of, AreHeld, views_of, IsHeld, listener_of, listeners_of, own_view, own_views, own_number, shown_in}
 
@@ -27,19 +27,19 @@ position_map {X = X} test f xs = λ i. cond (nat_lt (first xs i) (length-map xs 
     first (y ∷ ys) = ap (λ n. cond (not (test (f y))) (1 + n) 0) (first ys)
 
 -- the views of the listeners that pass
-pub views_held : (test : Listener → Bool) (held : List Held) → views_where test (all_of held) ≡ own_views test held
+pub views_held : (test : Listener → Bool) (held : List HeldListener) → views_where test (all_of held) ≡ own_views test held
 views_held test [] = refl
 views_held test (h ∷ hs) = ap (cons_option (own_view test h)) (views_held test hs)
 
 -- ---- those that pass
 
-pub held_filter : (test : Held → Bool) (held : List Held) → AreHeld held → AreHeld (filter test held)
+pub held_filter : (test : HeldListener → Bool) (held : List HeldListener) → AreHeld held → AreHeld (filter test held)
 held_filter test held h = record {
-  rising = AllPairs-filter (λ (l m : Held). l.number < m.number) test held h.rising;
+  rising = AllPairs-filter (λ (l m : HeldListener). l.number < m.number) test held h.rising;
   each = All-filter test IsHeld held h.each;
 }
 
-pub listeners_filter : (test : Listener → Bool) (held : List Held) → listeners_of (filter (λ h. test (listener_of h)) held) ≡ filter test (listeners_of held)
+pub listeners_filter : (test : Listener → Bool) (held : List HeldListener) → listeners_of (filter (λ h. test (listener_of h)) held) ≡ filter test (listeners_of held)
 listeners_filter test [] = refl
 listeners_filter test (h ∷ hs) =
     elim (test (listener_of h)) as (λ b. listeners_of (cond b (h ∷ filter (λ h. test (listener_of h)) hs) (filter (λ h. test (listener_of h)) hs)) ≡ cond b (listener_of h ∷ filter test (listeners_of hs)) (filter test (listeners_of hs))) [
@@ -47,7 +47,7 @@ listeners_filter test (h ∷ hs) =
       | false ↦ listeners_filter test hs
     ]
 
-own_filter : (test : Listener → Bool) (held : List Held) → views_of (filter (λ h. test (listener_of h)) held) ≡ map (λ c. c.1) (own_views test held)
+own_filter : (test : Listener → Bool) (held : List HeldListener) → views_of (filter (λ h. test (listener_of h)) held) ≡ map (λ c. c.1) (own_views test held)
 own_filter test [] = refl
 own_filter test (h ∷ hs) =
     elim (test (listener_of h)) as (λ b. views_of (cond b (h ∷ filter (λ h. test (listener_of h)) hs) (filter (λ h. test (listener_of h)) hs)) ≡ map (λ c. c.1) (cons_option (cond b (Some (h.number, h.view)) None) (own_views test hs))) [
@@ -55,24 +55,24 @@ own_filter test (h ∷ hs) =
       | false ↦ own_filter test hs
     ]
 
-pub views_filter : (test : Listener → Bool) (held : List Held) → views_of (filter (λ h. test (listener_of h)) held) ≡ views_left test (all_of held)
+pub views_filter : (test : Listener → Bool) (held : List HeldListener) → views_of (filter (λ h. test (listener_of h)) held) ≡ views_left test (all_of held)
 views_filter test held = own_filter test held ∙ ap (map (λ c. c.1)) (sym (views_held test held))
 
 -- ---- one more
 
-above_held : (number : ℕ) (held : List Held) → All (λ (l : Listener). l.number < number) (listeners_of held) → (k : ℕ) (d : Held) → k < length held → (get_or held k d).number < number
+above_held : (number : ℕ) (held : List HeldListener) → All (λ (l : Listener). l.number < number) (listeners_of held) → (k : ℕ) (d : HeldListener) → k < length held → (get_or held k d).number < number
 above_held number held h k d lt =
     let at : get_or (listeners_of held) k (listener_of d) ≡ listener_of (get_or held k d) = get_or-map listener_of held k d (listener_of d) lt in
     let low : (get_or (listeners_of held) k (listener_of d)).number < number = h k (listener_of d) (omega (arith, length-map held listener_of)) in
     omega (arith, low, ap (λ (l : Listener). l.number) at)
 
 -- all numbers are below it
-pub all_below : (number : ℕ) (held : List Held) → All (λ (l : Listener). l.number < number) (listeners_of held) → All (λ (h : Held). h.number < number) held
+pub all_below : (number : ℕ) (held : List HeldListener) → All (λ (l : Listener). l.number < number) (listeners_of held) → All (λ (h : HeldListener). h.number < number) held
 all_below number held h k d lt = above_held number held h k d lt
 
-pub held_more : (held : List Held) (l : Held) (number : ℕ) → AreHeld held → IsHeld l → l.number ≡ number → All (λ (m : Listener). m.number < number) (listeners_of held) → AreHeld (held ++ l ∷ [])
+pub held_more : (held : List HeldListener) (l : HeldListener) (number : ℕ) → AreHeld held → IsHeld l → l.number ≡ number → All (λ (m : Listener). m.number < number) (listeners_of held) → AreHeld (held ++ l ∷ [])
 held_more held l number h own same above = record {
-  rising = all_pairs_push (λ (a b : Held). a.number < b.number) held l h.rising (λ k d lt. let low = above_held number held above k d lt in omega (arith, low, same));
+  rising = all_pairs_push (λ (a b : HeldListener). a.number < b.number) held l h.rising (λ k d lt. let low = above_held number held above k d lt in omega (arith, low, same));
   each = All-append IsHeld held (l ∷ []) h.each (one own);
 }
   where
@@ -82,7 +82,7 @@ held_more held l number h own same above = record {
 
 -- ---- the numbers of a seat
 
-pub numbers_own : (seat : ℕ) (held : List Held) → filter_map (own_number seat) held ≡ map (λ (l : Listener). l.number) (filter (λ (l : Listener). l.seat == seat) (listeners_of held))
+pub numbers_own : (seat : ℕ) (held : List HeldListener) → filter_map (own_number seat) held ≡ map (λ (l : Listener). l.number) (filter (λ (l : Listener). l.seat == seat) (listeners_of held))
 numbers_own seat [] = refl
 numbers_own seat (h ∷ hs) =
     elim (h.seat == seat) as (λ b. cons_option (cond b (Some h.number) None) (filter_map (own_number seat) hs) ≡ map (λ (l : Listener). l.number) (cond b (listener_of h ∷ filter (λ (l : Listener). l.seat == seat) (listeners_of hs)) (filter (λ (l : Listener). l.seat == seat) (listeners_of hs)))) [
@@ -92,28 +92,28 @@ numbers_own seat (h ∷ hs) =
 
 -- ---- the one of a number
 
-find_held : (number : ℕ) (held : List Held) → find (λ (l : Listener). l.number == number) (listeners_of held) ≡ option_map listener_of (find (λ (h : Held). h.number == number) held)
+find_held : (number : ℕ) (held : List HeldListener) → find (λ (l : Listener). l.number == number) (listeners_of held) ≡ option_map listener_of (find (λ (h : HeldListener). h.number == number) held)
 find_held number [] = refl
 find_held number (h ∷ hs) =
-    elim (h.number == number) as (λ b. cond b (Some (listener_of h)) (find (λ (l : Listener). l.number == number) (listeners_of hs)) ≡ option_map listener_of (cond b (Some h) (find (λ (h : Held). h.number == number) hs))) [
+    elim (h.number == number) as (λ b. cond b (Some (listener_of h)) (find (λ (l : Listener). l.number == number) (listeners_of hs)) ≡ option_map listener_of (cond b (Some h) (find (λ (h : HeldListener). h.number == number) hs))) [
       | true ↦ refl
       | false ↦ find_held number hs
     ]
 
-pub view_held : (number : ℕ) (held : List Held) → option_and_then (λ h. shown_in h.view) (find (λ (h : Held). h.number == number) held) ≡ view_before (listeners_of held) number
+pub view_held : (number : ℕ) (held : List HeldListener) → option_and_then (λ h. shown_in h.view) (find (λ (h : HeldListener). h.number == number) held) ≡ view_before (listeners_of held) number
 view_held number held =
-    step (find (λ (h : Held). h.number == number) held) ∙ ap (option_and_then (λ (l : Listener). l.view)) (sym (find_held number held))
+    step (find (λ (h : HeldListener). h.number == number) held) ∙ ap (option_and_then (λ (l : Listener). l.view)) (sym (find_held number held))
   where
-    step : (o : Option Held) → option_and_then (λ h. shown_in h.view) o ≡ option_and_then (λ (l : Listener). l.view) (option_map listener_of o)
+    step : (o : Option HeldListener) → option_and_then (λ h. shown_in h.view) o ≡ option_and_then (λ (l : Listener). l.view) (option_map listener_of o)
     step (Some h) = refl
     step None = refl
 
-pub none_held : (number : ℕ) (held : List Held) → find (λ (l : Listener). l.number == number) (listeners_of held) ≡ None → find (λ (h : Held). h.number == number) held ≡ None
-none_held number held e = back (find (λ (h : Held). h.number == number) held) (sym (find_held number held) ∙ e)
+pub none_held : (number : ℕ) (held : List HeldListener) → find (λ (l : Listener). l.number == number) (listeners_of held) ≡ None → find (λ (h : HeldListener). h.number == number) held ≡ None
+none_held number held e = back (find (λ (h : HeldListener). h.number == number) held) (sym (find_held number held) ∙ e)
   where
-    back : (o : Option Held) → option_map listener_of o ≡ None → o ≡ None
+    back : (o : Option HeldListener) → option_map listener_of o ≡ None → o ≡ None
     back (Some h) e = cc
     back None e = refl
 
-pub none_seen : (number : ℕ) (held : List Held) → find (λ (h : Held). h.number == number) held ≡ None → find (λ (l : Listener). l.number == number) (listeners_of held) ≡ None
+pub none_seen : (number : ℕ) (held : List HeldListener) → find (λ (h : HeldListener). h.number == number) held ≡ None → find (λ (l : Listener). l.number == number) (listeners_of held) ≡ None
 none_seen number held e = find_held number held ∙ ap (option_map listener_of) e

@@ -15,25 +15,25 @@ use Rattle.rt_query.specs.QueryEq.{query_eq}
 use Rattle.rt_query.specs.Supply.{form}
 use Rattle.rt_query.specs.laws.QueryEq.{query_eq_tells}
 use Rattle.rt_writes.specs.laws.Places.{any_found, found_at, stands}
-use Rattle.rt_parts.specs.declared.listeners.Held.{Held}
-use Rattle.rt_parts.specs.declared.places.Place.{Place}
+use Rattle.rt_parts.specs.declared.listeners.HeldListener.{HeldListener}
+use Rattle.rt_parts.specs.declared.places.ListenerPlace.{ListenerPlace}
 use Rattle.rt_parts.specs.inside.Placed.{AreInOrder, HaveNumbers, IsIndex, placed, stand_cmp, stand_of}
 use Rattle.rt_parts.proofs.Numbered.{only_there}
 use Rattle.rt_parts.proofs.SameLaws.{same_filter, same_known, same_known_back, same_more, same_read}
 
 -- those that pass
-pub index_filter : (q : Place → Bool) (r : Held → Bool) (held : List Held) (places : List Place) → All (λ h. q (placed h) ≡ r h) held → IsIndex held places → IsIndex (filter r held) (filter q places)
+pub index_filter : (q : ListenerPlace → Bool) (r : HeldListener → Bool) (held : List HeldListener) (places : List ListenerPlace) → All (λ h. q (placed h) ≡ r h) held → IsIndex held places → IsIndex (filter r held) (filter q places)
 index_filter q r held places agree is = record {
-  order = AllPairs-filter (λ (x y : Place). stand_cmp (stand_of x) (stand_of y) ≡ Less) q places is.order;
+  order = AllPairs-filter (λ (x y : ListenerPlace). stand_cmp (stand_of x) (stand_of y) ≡ Less) q places is.order;
   same = same_filter placed q r places held agree is.same;
 }
 
 -- one more
-pub index_more : (held : List Held) (places new : List Place) (h : Held) → IsIndex held places → AreInOrder new → ((p : Place → Bool) → list_any p new ≡ (p (placed h) || list_any p places)) → IsIndex (held ++ h ∷ []) new
+pub index_more : (held : List HeldListener) (places new : List ListenerPlace) (h : HeldListener) → IsIndex held places → AreInOrder new → ((p : ListenerPlace → Bool) → list_any p new ≡ (p (placed h) || list_any p places)) → IsIndex (held ++ h ∷ []) new
 index_more held places new h is order more = record { order = order; same = same_more placed places new held h is.same more }
 
 -- where the listeners stay where they are
-pub index_read : (held new : List Held) (places : List Place) → map placed new ≡ map placed held → IsIndex held places → IsIndex new places
+pub index_read : (held new : List HeldListener) (places : List ListenerPlace) → map placed new ≡ map placed held → IsIndex held places → IsIndex new places
 index_read held new places e is = record { order = is.order; same = same_read placed places held new e is.same }
 
 -- ---- places of other numbers
@@ -64,11 +64,11 @@ same_stand x =
     ∙ ap (λ b. is_eq (cond b Equal Greater)) (nat_eq_equiv.refl x.1)
 
 -- a place for a number above all is free
-pub free_above : (number : ℕ) (path : Path) (held : List Held) (places : List Place) → IsIndex held places → All (λ (h : Held). h.number < number) held
+pub free_above : (number : ℕ) (path : Path) (held : List HeldListener) (places : List ListenerPlace) → IsIndex held places → All (λ (h : HeldListener). h.number < number) held
     → All (λ x. is_eq (stand_cmp (stand_of x) (path, number)) ≡ false) places
 free_above number path held places is above k d lt =
-    let low : All (λ (x : Place). nat_lt x.number number ≡ true) places =
-    same_known_back placed (λ (x : Place). nat_lt x.number number) places held is.same (λ j e l. lt-ltb (get_or held j e).number number (above j e l)) in
+    let low : All (λ (x : ListenerPlace). nat_lt x.number number ≡ true) places =
+    same_known_back placed (λ (x : ListenerPlace). nat_lt x.number number) places held is.same (λ j e l. lt-ltb (get_or held j e).number number (above j e l)) in
     other_stand (stand_of (get_or places k d)) (path, number) (less_other (get_or places k d).number number (low k d lt))
   where
     less_other : (m n : ℕ) → nat_lt m n ≡ true → (m == n) ≡ false
@@ -82,7 +82,7 @@ free_above number path held places is above k d lt =
 -- ---- those that stay without one
 
 -- a place is another than that of a listener where the number is
-pub removed_agree : (held : List Held) (number at : ℕ) (path : Path) (d : Held) → AllPairs (λ (l m : Held). l.number < m.number) held → position (λ (h : Held). h.number == number) held ≡ Some at → at < length held
+pub removed_agree : (held : List HeldListener) (number at : ℕ) (path : Path) (d : HeldListener) → AllPairs (λ (l m : HeldListener). l.number < m.number) held → position (λ (h : HeldListener). h.number == number) held ≡ Some at → at < length held
     → path ≡ (get_or held at d).query.path
     → All (λ h. not (is_eq (stand_cmp (stand_of (placed h)) (path, number))) ≡ not (h.number == number)) held
 removed_agree held number at path d up found within is k e lt =
@@ -92,14 +92,14 @@ removed_agree held number at path d up found within is k e lt =
         | true ↦ λ g.
             let here : k ≡ at = eqb-true k at g in
             let there : (get_or held k e) ≡ get_or held at d = ap (λ n. get_or held n e) here ∙ any_default held at e d within in
-            let p : (get_or held k e).query.path ≡ path = ap (λ (h : Held). h.query.path) there ∙ sym is in
+            let p : (get_or held k e).query.path ≡ path = ap (λ (h : HeldListener). h.query.path) there ∙ sym is in
             let n : (get_or held k e).number ≡ number = eqb-true (get_or held k e).number number f in
             ap not ((λ i. is_eq (stand_cmp (p i, n i) (path, number))) ∙ same_stand (path, number))
-        | false ↦ λ g. absurd (true≢false (sym f ∙ only_there (λ (h : Held). h.number) held number at up found k e lt (λ z. absurd (true≢false (sym (ap (λ m. m == at) z ∙ nat_eq_equiv.refl at) ∙ g)))))
+        | false ↦ λ g. absurd (true≢false (sym f ∙ only_there (λ (h : HeldListener). h.number) held number at up found k e lt (λ z. absurd (true≢false (sym (ap (λ m. m == at) z ∙ nat_eq_equiv.refl at) ∙ g)))))
       ] refl
     ] refl
   where
-    any_default : (xs : List Held) (i : ℕ) (a b : Held) → i < length xs → get_or xs i a ≡ get_or xs i b
+    any_default : (xs : List HeldListener) (i : ℕ) (a b : HeldListener) → i < length xs → get_or xs i a ≡ get_or xs i b
     any_default [] i a b l = absurd (omega arith)
     any_default (x ∷ xs) zero a b l = refl
     any_default (x ∷ xs) (suc i) a b l = any_default xs i a b (omega arith)
@@ -116,26 +116,26 @@ form_path q f e = subst (λ (g : Query). path_eq q.path g.path ≡ true) ((query
     ]
 
 -- of the listeners of one's number one passes, if it does
-pub own_test : (held : List Held) (test : Held → Bool) → AllPairs (λ (l m : Held). l.number < m.number) held
-    → All (λ h. list_any (λ (l : Held). l.number == h.number && test l) held ≡ test h) held
+pub own_test : (held : List HeldListener) (test : HeldListener → Bool) → AllPairs (λ (l m : HeldListener). l.number < m.number) held
+    → All (λ h. list_any (λ (l : HeldListener). l.number == h.number && test l) held ≡ test h) held
 own_test held test up k d lt =
-    let h : Held = get_or held k d in
-    any_found (λ (l : Held). l.number) test held h.number h up
-    (found_at (λ (l : Held). l.number == h.number) held k d (stands (λ (l : Held). l.number) held k h.number d up lt refl))
+    let h : HeldListener = get_or held k d in
+    any_found (λ (l : HeldListener). l.number) test held h.number h up
+    (found_at (λ (l : HeldListener). l.number == h.number) held k d (stands (λ (l : HeldListener). l.number) held k h.number d up lt refl))
 
 pub only_at_path : (a b : Bool) → (b ≡ true → a ≡ true) → (a && b) ≡ b
 only_at_path true b g = refl
 only_at_path false true g = g refl
 only_at_path false false g = refl
 
-pub form_agree : (held : List Held) (f : Query) → AllPairs (λ (l m : Held). l.number < m.number) held
-    → All (λ h. not (path_eq (placed h).path f.path && list_any (λ (l : Held). l.number == (placed h).number && query_eq (form l.query) f) held) ≡ not (query_eq (form h.query) f)) held
+pub form_agree : (held : List HeldListener) (f : Query) → AllPairs (λ (l m : HeldListener). l.number < m.number) held
+    → All (λ h. not (path_eq (placed h).path f.path && list_any (λ (l : HeldListener). l.number == (placed h).number && query_eq (form l.query) f) held) ≡ not (query_eq (form h.query) f)) held
 form_agree held f up k d lt =
-    let h : Held = get_or held k d in
-    ap not (ap (λ b. path_eq h.query.path f.path && b) (own_test held (λ (l : Held). query_eq (form l.query) f) up k d lt) ∙ only_at_path (path_eq h.query.path f.path) (query_eq (form h.query) f) (form_path h.query f))
+    let h : HeldListener = get_or held k d in
+    ap not (ap (λ b. path_eq h.query.path f.path && b) (own_test held (λ (l : HeldListener). query_eq (form l.query) f) up k d lt) ∙ only_at_path (path_eq h.query.path f.path) (query_eq (form h.query) f) (form_path h.query f))
 
 -- ---- what is known of the listeners
 
-pub have_due : (test : Place → Bool) (numbers : List ℕ) (held : List Held) (places : List Place) → IsIndex held places → HaveNumbers test numbers places
+pub have_due : (test : ListenerPlace → Bool) (numbers : List ℕ) (held : List HeldListener) (places : List ListenerPlace) → IsIndex held places → HaveNumbers test numbers places
     → All (λ h. test (placed h) ≡ true → list_any (λ n. h.number == n) numbers ≡ true) held
-have_due test numbers held places is all = same_known placed test (λ (x : Place). list_any (λ n. x.number == n) numbers) places held is.same all
+have_due test numbers held places is all = same_known placed test (λ (x : ListenerPlace). list_any (λ n. x.number == n) numbers) places held is.same all

@@ -11,7 +11,7 @@ use Rattle.rt_writes.specs.Writes.{Write}
 use Rattle.rt_cache.specs.Brought.{Brought}
 use Rattle.rt_view.specs.Views.{View}
 use Rattle.rt_world.specs.World.{Listener}
-use Rattle.rt_parts.specs.declared.listeners.Held.{Held}
+use Rattle.rt_parts.specs.declared.listeners.HeldListener.{HeldListener}
 use Rattle.rt_parts.specs.inside.HeldView.{listener_of, listeners_of, pair_of, refreshed_heard, views_of}
 use Rattle.rt_parts.specs.Refreshed.{renewed_heard, view_heard}
 
@@ -96,31 +96,31 @@ gather_more t (x ∷ xs) (suc i) d lt =
 -- ---- refreshed pairs
 
 -- the listeners among them
-pub firsts : (ls : List Held) → listeners_of ls ≡ map (λ (p : Listener × Option View). p.0) (map pair_of ls)
+pub firsts : (ls : List HeldListener) → listeners_of ls ≡ map (λ (p : Listener × Option View). p.0) (map pair_of ls)
 firsts [] = refl
 firsts (l ∷ ls) = ap (λ z. listener_of l ∷ z) (firsts ls)
 
 module _ (range : Option Query) (entries : List Assignment) (b : Brought) (writes : List Write) where
   -- all listeners, and all views
-  pub all_listeners : (old ls : List Held) → map pair_of ls ≡ map (refreshed_heard range entries b writes) (map pair_of old) → listeners_of ls ≡ map (renewed_heard range entries b writes) (listeners_of old)
+  pub all_listeners : (old ls : List HeldListener) → map pair_of ls ≡ map (refreshed_heard range entries b writes) (map pair_of old) → listeners_of ls ≡ map (renewed_heard range entries b writes) (listeners_of old)
   all_listeners old ls e = firsts ls ∙ ap (map (λ (p : Listener × Option View). p.0)) e ∙ at old
     where
-      at : (old : List Held) → map (λ (p : Listener × Option View). p.0) (map (refreshed_heard range entries b writes) (map pair_of old)) ≡ map (renewed_heard range entries b writes) (listeners_of old)
+      at : (old : List HeldListener) → map (λ (p : Listener × Option View). p.0) (map (refreshed_heard range entries b writes) (map pair_of old)) ≡ map (renewed_heard range entries b writes) (listeners_of old)
       at [] = refl
       at (l ∷ old) = ap (λ z. renewed_heard range entries b writes (listener_of l) ∷ z) (at old)
 
-  pub all_views : (old ls : List Held) → map pair_of ls ≡ map (refreshed_heard range entries b writes) (map pair_of old) → views_of ls ≡ map (view_heard range entries b writes) (zip (listeners_of old) (views_of old))
+  pub all_views : (old ls : List HeldListener) → map pair_of ls ≡ map (refreshed_heard range entries b writes) (map pair_of old) → views_of ls ≡ map (view_heard range entries b writes) (zip (listeners_of old) (views_of old))
   all_views old ls e = seconds ls ∙ ap (map (λ (p : Listener × Option View). p.1)) e ∙ at old
     where
-      seconds : (ls : List Held) → views_of ls ≡ map (λ (p : Listener × Option View). p.1) (map pair_of ls)
+      seconds : (ls : List HeldListener) → views_of ls ≡ map (λ (p : Listener × Option View). p.1) (map pair_of ls)
       seconds [] = refl
       seconds (l ∷ ls) = ap (λ z. l.view ∷ z) (seconds ls)
 
-      at : (old : List Held) → map (λ (p : Listener × Option View). p.1) (map (refreshed_heard range entries b writes) (map pair_of old)) ≡ map (view_heard range entries b writes) (zip (listeners_of old) (views_of old))
+      at : (old : List HeldListener) → map (λ (p : Listener × Option View). p.1) (map (refreshed_heard range entries b writes) (map pair_of old)) ≡ map (view_heard range entries b writes) (zip (listeners_of old) (views_of old))
       at [] = refl
       at (l ∷ old) = ap (λ z. view_heard range entries b writes (pair_of l) ∷ z) (at old)
 
 -- listeners with their views
-pub zip_pairs : (ls : List Held) → zip (listeners_of ls) (views_of ls) ≡ map pair_of ls
+pub zip_pairs : (ls : List HeldListener) → zip (listeners_of ls) (views_of ls) ≡ map pair_of ls
 zip_pairs [] = refl
 zip_pairs (l ∷ ls) = ap (λ z. pair_of l ∷ z) (zip_pairs ls)

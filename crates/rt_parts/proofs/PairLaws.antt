@@ -19,8 +19,8 @@ use Rattle.rt_tree.specs.Assignments.{Assignment, do_overlap, is_at_or_above}
 use Rattle.rt_tree.specs.Leaves.{strip}
 use Rattle.rt_world.specs.Met.{do_meet}
 use Rattle.rt_world.specs.Touched.{named_by}
-use Rattle.rt_parts.specs.declared.listeners.Held.{Held}
-use Rattle.rt_parts.specs.declared.places.Place.{Place}
+use Rattle.rt_parts.specs.declared.listeners.HeldListener.{HeldListener}
+use Rattle.rt_parts.specs.declared.places.ListenerPlace.{ListenerPlace}
 use Rattle.rt_query.specs.Queries.{Query}
 use Rattle.rt_parts.specs.inside.HeldView.{HaveSupplied}
 use Rattle.rt_parts.specs.inside.Pairs.{AreHanded, AreUp, HasOwn, HasPairs, HaveAll, HavePairs, KeepsPairs, met_cmp, named_at}
@@ -116,14 +116,14 @@ paired old numbers m entry e =
 pub keeps_pairs : (old more : List (ℕ × ℕ)) → KeepsPairs old (old ++ more)
 keeps_pairs old more p e = list_any-append p old more ∙ ap (λ b. b || list_any p more) e
 
-pub pairs_none : (places : List Place) (pairs : List (ℕ × ℕ)) (entries : List Assignment) → HavePairs (take 0 entries) pairs places
+pub pairs_none : (places : List ListenerPlace) (pairs : List (ℕ × ℕ)) (entries : List Assignment) → HavePairs (take 0 entries) pairs places
 pairs_none places pairs entries k d lt i a within e = absurd (omega arith)
 
-pub pairs_more : (places : List Place) (old new : List (ℕ × ℕ)) (entries : List Assignment) (i : ℕ) (p : Path) → i < length entries → ((a : Assignment) → (get_or entries i a).0 ≡ p) → KeepsPairs old new
+pub pairs_more : (places : List ListenerPlace) (old new : List (ℕ × ℕ)) (entries : List Assignment) (i : ℕ) (p : Path) → i < length entries → ((a : Assignment) → (get_or entries i a).0 ≡ p) → KeepsPairs old new
     → All (λ x. do_overlap p x.path ≡ true → list_any (λ (o : ℕ × ℕ). x.number == o.0 && i == o.1) new ≡ true) places
     → HavePairs (take i entries) old places → HavePairs (take (i + 1) entries) new places
 pairs_more places old new entries i p lt at kept one all k d in_places j a within e =
-    let x : Place = get_or places k d in
+    let x : ListenerPlace = get_or places k d in
     let front : length (take (i + 1) entries) ≡ i + 1 = length-take-le (i + 1) entries (omega arith) in
     let long : length (take i entries) ≡ i = length-take-le i entries (omega arith) in
     let read : get_or (take (i + 1) entries) j a ≡ get_or entries j a = get_or-take (i + 1) entries j a (omega (arith, front, within)) in
@@ -177,10 +177,10 @@ only_more numbers old new at is only n e =
 
 -- ---- from places to listeners
 
-pub have_pairs : (entries : List Assignment) (pairs : List (ℕ × ℕ)) (held : List Held) (places : List Place) → IsIndex held places → HavePairs entries pairs places
-    → All (λ (l : Held). HasPairs entries pairs l.number l.query.path) held
+pub have_pairs : (entries : List Assignment) (pairs : List (ℕ × ℕ)) (held : List HeldListener) (places : List ListenerPlace) → IsIndex held places → HavePairs entries pairs places
+    → All (λ (l : HeldListener). HasPairs entries pairs l.number l.query.path) held
 have_pairs entries pairs held places is all k d lt i a within =
-    same_known placed (λ (x : Place). do_overlap (get_or entries i a).0 x.path) (λ (x : Place). list_any (λ (o : ℕ × ℕ). x.number == o.0 && i == o.1) pairs) places held is.same
+    same_known placed (λ (x : ListenerPlace). do_overlap (get_or entries i a).0 x.path) (λ (x : ListenerPlace). list_any (λ (o : ℕ × ℕ). x.number == o.0 && i == o.1) pairs) places held is.same
     (λ j e l. all j e l i a within) k d lt
 
 -- one that an entry meets has its number among those of the pairs
@@ -192,7 +192,7 @@ met_number entries pairs number path has e =
     (has w.0 w.1 w.2 (ap (λ (a : Assignment). do_overlap a.0 path) w.3 ∙ w.4))
 
 -- where all entries reach each listener, those that meet it are handed to it
-pub handed_met : (entries : List Assignment) (pairs : List (ℕ × ℕ)) (held : List Held) (places : List Place) → IsIndex held places → AreUp pairs → HavePairs entries pairs places
+pub handed_met : (entries : List Assignment) (pairs : List (ℕ × ℕ)) (held : List HeldListener) (places : List ListenerPlace) → IsIndex held places → AreUp pairs → HavePairs entries pairs places
     → AreHanded None entries pairs held
 handed_met entries pairs held places is up all = record {
   up = up;
@@ -201,7 +201,7 @@ handed_met entries pairs held places is up all = record {
 }
 
 -- where they are pushed on a range's listen alone, those that it supplies are handed all
-pub handed_supplied : (range : Query) (entries : List Assignment) (count : ℕ) (numbers : List ℕ) (pairs : List (ℕ × ℕ)) (held : List Held) → count ≡ length entries
+pub handed_supplied : (range : Query) (entries : List Assignment) (count : ℕ) (numbers : List ℕ) (pairs : List (ℕ × ℕ)) (held : List HeldListener) → count ≡ length entries
     → HaveSupplied range numbers held → AreUp pairs → HaveAll count numbers pairs → HaveOnly numbers pairs → AreHanded (Some range) entries pairs held
 handed_supplied range entries count numbers pairs held long supplied up all only = record {
   up = up;

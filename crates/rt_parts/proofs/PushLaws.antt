@@ -13,7 +13,7 @@ use Rattle.std.proofs.lemmas.List.{get_or-map, length-map, length-drop}
 use Rattle.std.proofs.lemmas.List.Folds.{list_any-append, list_any_at}
 use Rattle.rt_tree.specs.PathTree.{Path, path_eq, path_eq-same}
 use Rattle.rt_tree.specs.Assignments.{do_overlap, is_at_or_above}
-use Rattle.rt_parts.specs.declared.places.Place.{Place}
+use Rattle.rt_parts.specs.declared.places.ListenerPlace.{ListenerPlace}
 use Rattle.rt_parts.specs.inside.Placed.{HaveNumbers, Keeps}
 use Rattle.rt_parts.proofs.PathLaws.{above_or_same, first_part}
 
@@ -52,22 +52,22 @@ pub keeps_both : (xs ys zs : List ℕ) → Keeps xs ys → Keeps ys zs → Keeps
 keeps_both xs ys zs a b p e = b p (a p e)
 
 -- one that is found has its number among them
-pub has_found : (old : List ℕ) (found : List Place) (x : Place) (j : ℕ) (d : Place) → j < length found → get_or found j d ≡ x
-    → list_any (λ n. x.number == n) (old ++ map (λ (y : Place). y.number) found) ≡ true
+pub has_found : (old : List ℕ) (found : List ListenerPlace) (x : ListenerPlace) (j : ℕ) (d : ListenerPlace) → j < length found → get_or found j d ≡ x
+    → list_any (λ n. x.number == n) (old ++ map (λ (y : ListenerPlace). y.number) found) ≡ true
 has_found old found x j d lt e =
-    list_any-append (λ n. x.number == n) old (map (λ (y : Place). y.number) found)
+    list_any-append (λ n. x.number == n) old (map (λ (y : ListenerPlace). y.number) found)
     ∙ ap (λ b. list_any (λ n. x.number == n) old || b)
-    (list_any_at (λ n. x.number == n) (map (λ (y : Place). y.number) found) j d.number (omega (arith, lt, length-map found (λ (y : Place). y.number)))
-    (ap (λ n. x.number == n) (get_or-map (λ (y : Place). y.number) found j d d.number lt ∙ ap (λ (y : Place). y.number) e) ∙ nat_eq_equiv.refl x.number))
+    (list_any_at (λ n. x.number == n) (map (λ (y : ListenerPlace). y.number) found) j d.number (omega (arith, lt, length-map found (λ (y : ListenerPlace). y.number)))
+    (ap (λ n. x.number == n) (get_or-map (λ (y : ListenerPlace). y.number) found j d d.number lt ∙ ap (λ (y : ListenerPlace). y.number) e) ∙ nat_eq_equiv.refl x.number))
     ∙ or_true (list_any (λ n. x.number == n) old)
 
 -- those above a path, of one more key
-pub above_more : (places : List Place) (old new : List ℕ) (path : Path) (count : ℕ) → Keeps old new
+pub above_more : (places : List ListenerPlace) (old new : List ℕ) (path : Path) (count : ℕ) → Keeps old new
     → HaveNumbers (λ x. path_eq x.path (take count path)) new places
     → HaveNumbers (λ x. is_at_or_above x.path path && nat_lt (length x.path) count) old places
     → HaveNumbers (λ x. is_at_or_above x.path path && nat_lt (length x.path) (count + 1)) new places
 above_more places old new path count kept one all k d lt e =
-    let x : Place = get_or places k d in
+    let x : ListenerPlace = get_or places k d in
     let above : is_at_or_above x.path path ≡ true = and_first (is_at_or_above x.path path) (nat_lt (length x.path) (count + 1)) e in
     elim (nat_lt (length x.path) count) as (λ b. nat_lt (length x.path) count ≡ b → list_any (λ n. x.number == n) new ≡ true) [
       | true ↦ λ f. kept (λ n. x.number == n) (all k d lt (ap (λ b. b && nat_lt (length x.path) count) above ∙ f))
@@ -78,19 +78,19 @@ above_more places old new path count kept one all k d lt e =
           one k d lt (ap (λ n. path_eq x.path (take n path)) same ∙ ap (path_eq x.path) (first_part x.path path above) ∙ path_eq-same x.path)
     ] refl
 
-pub above_none : (places : List Place) (old : List ℕ) (path : Path) → HaveNumbers (λ x. is_at_or_above x.path path && nat_lt (length x.path) 0) old places
+pub above_none : (places : List ListenerPlace) (old : List ℕ) (path : Path) → HaveNumbers (λ x. is_at_or_above x.path path && nat_lt (length x.path) 0) old places
 above_none places old path k d lt e =
-    let x : Place = get_or places k d in
+    let x : ListenerPlace = get_or places k d in
     let less : length x.path < 0 = ltb-true (length x.path) 0 (and_second (is_at_or_above x.path path) (nat_lt (length x.path) 0) e) in
     absurd (omega (arith, less))
 
 -- those at, above and under a path
-pub met_all : (places : List Place) (mid new : List ℕ) (path : Path) → Keeps mid new
+pub met_all : (places : List ListenerPlace) (mid new : List ℕ) (path : Path) → Keeps mid new
     → HaveNumbers (λ x. is_at_or_above x.path path && nat_lt (length x.path) (length path)) mid places
     → HaveNumbers (λ x. is_at_or_above path x.path) new places
     → HaveNumbers (λ x. do_overlap path x.path) new places
 met_all places mid new path kept above under k d lt e =
-    let x : Place = get_or places k d in
+    let x : ListenerPlace = get_or places k d in
     or_cases (is_at_or_above path x.path) (is_at_or_above x.path path) e (under k d lt)
     (λ f. or_cases (is_at_or_above path x.path) (is_at_or_above x.path path && nat_lt (length x.path) (length path)) (above_or_same x.path path f) (under k d lt)
     (λ g. kept (λ n. x.number == n) (above k d lt g)))

@@ -17,9 +17,9 @@ use Rattle.rt_world.specs.Met.{do_meet, told, told_met}
 use Rattle.rt_world.specs.Views.{is_known, view_of}
 use Rattle.rt_world.specs.World.{Listener}
 use Rattle.rt_writes.specs.laws.Places.{filter_none_found}
-use Rattle.rt_parts.specs.declared.listeners.Held.{Held}
+use Rattle.rt_parts.specs.declared.listeners.HeldListener.{HeldListener}
 use Rattle.rt_parts.specs.inside.HeldView.{counted_of, listener_of, listeners_of, pair_of, refreshed, refreshed_at, refreshed_heard, told_at}
-use Rattle.rt_parts.specs.declared.places.Place.{Place}
+use Rattle.rt_parts.specs.declared.places.ListenerPlace.{ListenerPlace}
 use Rattle.rt_parts.specs.inside.Pairs.{AreHanded, HasPairs, IsDue}
 use Rattle.rt_parts.specs.inside.Placed.{placed}
 use Rattle.rt_parts.specs.Listeners.{count_if}
@@ -52,7 +52,7 @@ later numbers i n within at rise k d lt =
     any_default (x ∷ xs) (suc i) a c l = any_default xs i a c (omega arith)
 
 -- a listener has one of the numbers where it hears of the entries and one meets it, and only where it hears of them
-pub record IsHeard (entries : List Assignment) (range : Option Query) (numbers : List ℕ) (l : Held) : Type 0 where
+pub record IsHeard (entries : List Assignment) (range : Option Query) (numbers : List ℕ) (l : HeldListener) : Type 0 where
   pub only : list_any (λ n. l.number == n) numbers ≡ true → hears range l.query ≡ true
   pub all : hears range l.query ≡ true → do_meet entries l.query.path ≡ true → list_any (λ n. l.number == n) numbers ≡ true
 
@@ -130,21 +130,21 @@ module _ (entries : List Assignment) (b : Brought) (writes : List Write) where
   met p = do_meet entries p.0.query.path
 
   -- what holds of listeners holds of them with their views
-  pub pairs_from : (P : Pair → Type 0) (ls : List Held) → All (λ (l : Held). P (pair_of l)) ls → All P (map pair_of ls)
+  pub pairs_from : (P : Pair → Type 0) (ls : List HeldListener) → All (λ (l : HeldListener). P (pair_of l)) ls → All P (map pair_of ls)
   pairs_from P [] h = λ k d lt. absurd (omega arith)
   pairs_from P (l ∷ ls) h = All-cons P (pair_of l) (map pair_of ls) (h 0 l (omega arith)) (pairs_from P ls (λ k d lt. h (suc k) d (omega arith)))
 
   -- ---- the listeners that entries are handed to
 
   module _ (range : Option Query) where
-    abbrev pub AreHeard : List ℕ → List Held → Type 0
+    abbrev pub AreHeard : List ℕ → List HeldListener → Type 0
     AreHeard numbers ls = All (IsHeard entries range numbers) ls
 
     -- so it is where the numbers are those of the pairs
-    pub heard_by : (pairs lent : List (ℕ × ℕ)) (numbers given : List ℕ) (seen ls : List Held) → AreHanded range entries pairs seen → seen ≡ ls → lent ≡ pairs → given ≡ numbers
+    pub heard_by : (pairs lent : List (ℕ × ℕ)) (numbers given : List ℕ) (seen ls : List HeldListener) → AreHanded range entries pairs seen → seen ≡ ls → lent ≡ pairs → given ≡ numbers
         → ((p : ℕ → Bool) → list_any p numbers ≡ list_any (λ (o : ℕ × ℕ). p o.0) lent) → AreHeard given ls
     heard_by pairs lent numbers given seen ls handed se le ge same k d lt =
-        let l : Held = get_or ls k d in
+        let l : HeldListener = get_or ls k d in
         let all : AreHanded range entries pairs ls = subst (AreHanded range entries pairs) se handed in
         let known : list_any (λ n. l.number == n) given ≡ list_any (λ (o : ℕ × ℕ). l.number == o.0) pairs =
         ap (list_any (λ n. l.number == n)) ge ∙ same (λ n. l.number == n) ∙ ap (list_any (λ (o : ℕ × ℕ). l.number == o.0)) le in
@@ -154,7 +154,7 @@ module _ (entries : List Assignment) (b : Brought) (writes : List Write) where
         }
 
     -- those that are handed entries are due
-    pub handed_due : (pairs : List (ℕ × ℕ)) (numbers : List ℕ) (ls : List Held) → AreHanded range entries pairs ls → AreHeard numbers ls → All (FollowsNamed entries b writes) (map pair_of ls)
+    pub handed_due : (pairs : List (ℕ × ℕ)) (numbers : List ℕ) (ls : List HeldListener) → AreHanded range entries pairs ls → AreHeard numbers ls → All (FollowsNamed entries b writes) (map pair_of ls)
         → AreDue pairs numbers (map pair_of ls)
     handed_due pairs numbers ls handed heard follow k d lt e = record {
       follow = follow k d lt;
@@ -189,7 +189,7 @@ module _ (entries : List Assignment) (b : Brought) (writes : List Write) where
     count_by_tests false false meet f g x y u v n = refl
 
     -- so just those that hear of the entries are refreshed
-    pub left_heard : (numbers : List ℕ) (ls : List Held) → AreHeard numbers ls → left_of numbers (map pair_of ls) ≡ map (refreshed_heard range entries b writes) (map pair_of ls)
+    pub left_heard : (numbers : List ℕ) (ls : List HeldListener) → AreHeard numbers ls → left_of numbers (map pair_of ls) ≡ map (refreshed_heard range entries b writes) (map pair_of ls)
     left_heard numbers [] h = refl
     left_heard numbers (l ∷ ls) h =
         let one : IsHeard entries range numbers l = All-head (IsHeard entries range numbers) l ls h in
@@ -198,7 +198,7 @@ module _ (entries : List Assignment) (b : Brought) (writes : List Write) where
         λ i. first i ∷ left_heard numbers ls (All-tail (IsHeard entries range numbers) l ls h) i
 
     -- told
-    pub told_left_heard : (numbers : List ℕ) (ls : List Held) → AreHeard numbers ls → told_left numbers (map pair_of ls) ≡ all_told_heard range entries b writes (listeners_of ls)
+    pub told_left_heard : (numbers : List ℕ) (ls : List HeldListener) → AreHeard numbers ls → told_left numbers (map pair_of ls) ≡ all_told_heard range entries b writes (listeners_of ls)
     told_left_heard numbers [] h = refl
     told_left_heard numbers (l ∷ ls) h =
         let one : IsHeard entries range numbers l = All-head (IsHeard entries range numbers) l ls h in
@@ -212,7 +212,7 @@ module _ (entries : List Assignment) (b : Brought) (writes : List Write) where
     abbrev pub counted_left : List ℕ → List (Pair × ℕ) → List (Pair × ℕ)
     counted_left numbers ts = map (λ (t : Pair × ℕ). cond (list_any (λ n. t.0.0.number == n) numbers) (refreshed entries b writes t.0, count_if (met t.0) t.1 (refreshed entries b writes t.0).1) t) ts
 
-    pub counted_left_heard : (numbers : List ℕ) (ls : List Held) → AreHeard numbers ls → counted_left numbers (map counted_of ls) ≡ map counted_heard (map counted_of ls)
+    pub counted_left_heard : (numbers : List ℕ) (ls : List HeldListener) → AreHeard numbers ls → counted_left numbers (map counted_of ls) ≡ map counted_heard (map counted_of ls)
     counted_left_heard numbers [] h = refl
     counted_left_heard numbers (l ∷ ls) h =
         let one : IsHeard entries range numbers l = All-head (IsHeard entries range numbers) l ls h in
@@ -221,7 +221,7 @@ module _ (entries : List Assignment) (b : Brought) (writes : List Write) where
         λ i. first i ∷ counted_left_heard numbers ls (All-tail (IsHeard entries range numbers) l ls h) i
 
 -- numbers of listeners and of pairs rise alike
-pub pairs_up : (ls : List Held) → AllPairs (λ (l m : Held). l.number < m.number) ls → AllPairs (λ p q. number_of p < number_of q) (map pair_of ls)
+pub pairs_up : (ls : List HeldListener) → AllPairs (λ (l m : HeldListener). l.number < m.number) ls → AllPairs (λ p q. number_of p < number_of q) (map pair_of ls)
 pairs_up ls up = AllPairs-map pair_of (λ p q. number_of p < number_of q) ls up
 
 pub drop_past : {X : Type 0} (n : ℕ) (xs : List X) → length xs ≤ n → drop n xs ≡ []
@@ -231,19 +231,19 @@ drop_past zero (x ∷ xs) le = absurd (omega (arith, le))
 drop_past (suc n) (x ∷ xs) le = drop_past n xs (omega (arith, le))
 
 -- where no listener has the number, no pair has it
-pub none_there : (n : ℕ) (ls : List Held) → position (λ (l : Held). l.number == n) ls ≡ None → All (λ (p : Pair). (number_of p == n) ≡ false) (map pair_of ls)
-none_there n ls e = of_none ls (filter_none_found (λ (l : Held). l.number == n) ls e).0
+pub none_there : (n : ℕ) (ls : List HeldListener) → position (λ (l : HeldListener). l.number == n) ls ≡ None → All (λ (p : Pair). (number_of p == n) ≡ false) (map pair_of ls)
+none_there n ls e = of_none ls (filter_none_found (λ (l : HeldListener). l.number == n) ls e).0
   where
-    of_none : (xs : List Held) → find (λ (l : Held). l.number == n) xs ≡ None → All (λ (p : Pair). (number_of p == n) ≡ false) (map pair_of xs)
+    of_none : (xs : List HeldListener) → find (λ (l : HeldListener). l.number == n) xs ≡ None → All (λ (p : Pair). (number_of p == n) ≡ false) (map pair_of xs)
     of_none [] f = λ k d lt. absurd (omega arith)
-    of_none (x ∷ xs) f = elim (x.number == n) as (λ b. (x.number == n) ≡ b → cond b (Some x) (find (λ (l : Held). l.number == n) xs) ≡ None → All (λ (p : Pair). (number_of p == n) ≡ false) (map pair_of (x ∷ xs))) [
+    of_none (x ∷ xs) f = elim (x.number == n) as (λ b. (x.number == n) ≡ b → cond b (Some x) (find (λ (l : HeldListener). l.number == n) xs) ≡ None → All (λ (p : Pair). (number_of p == n) ≡ false) (map pair_of (x ∷ xs))) [
       | true ↦ λ g h. cc
       | false ↦ λ g h. All-cons (λ (p : Pair). (number_of p == n) ≡ false) (pair_of x) (map pair_of xs) g (of_none xs h)
     ] refl f
 
 -- a refreshed listener stands where it stood
 module _ (entries : List Assignment) (b : Brought) (writes : List Write) where
-  abbrev stand : Listener → Place
+  abbrev stand : Listener → ListenerPlace
   stand l = record { path = l.query.path; number = l.number; seat = l.seat }
 
   stand_stays : (p : Pair) → stand (refreshed entries b writes p).0 ≡ stand p.0
@@ -256,22 +256,22 @@ module _ (entries : List Assignment) (b : Brought) (writes : List Write) where
       kept l = elim (l.is_primed || is_known b writes l.query) as (λ z. stand (cond z (record l { is_primed = true; view = Some (view_of b writes l.query) }) l) ≡ stand l) [ true ↦ refl | false ↦ refl ]
 
   -- so does one that is renewed
-  pub placed_with : (h : Held) (l : Listener) → listener_of h ≡ renewed b writes l → placed h ≡ record { path = l.query.path; number = l.number; seat = l.seat }
+  pub placed_with : (h : HeldListener) (l : Listener) → listener_of h ≡ renewed b writes l → placed h ≡ record { path = l.query.path; number = l.number; seat = l.seat }
   placed_with h l e = ap stand e ∙ elim (l.is_primed || is_known b writes l.query) as (λ z. stand (cond z (record l { is_primed = true; view = Some (view_of b writes l.query) }) l) ≡ stand l) [ true ↦ refl | false ↦ refl ]
 
-  pub placed_left : (numbers : List ℕ) (old new : List Held) → map pair_of new ≡ left_of entries b writes numbers (map pair_of old) → map placed new ≡ map placed old
+  pub placed_left : (numbers : List ℕ) (old new : List HeldListener) → map pair_of new ≡ left_of entries b writes numbers (map pair_of old) → map placed new ≡ map placed old
   placed_left numbers old new e = read new ∙ ap (map (λ (p : Pair). stand p.0)) e ∙ stay old
     where
-      read : (ls : List Held) → map placed ls ≡ map (λ (p : Pair). stand p.0) (map pair_of ls)
+      read : (ls : List HeldListener) → map placed ls ≡ map (λ (p : Pair). stand p.0) (map pair_of ls)
       read [] = refl
       read (l ∷ ls) = ap (λ z. placed l ∷ z) (read ls)
 
       one : (p : Pair) → stand (cond (list_any (λ n. p.0.number == n) numbers) (refreshed entries b writes p) p).0 ≡ stand p.0
       one p = elim (list_any (λ n. p.0.number == n) numbers) as (λ z. stand (cond z (refreshed entries b writes p) p).0 ≡ stand p.0) [ true ↦ stand_stays p | false ↦ refl ]
 
-      stay : (ls : List Held) → map (λ (p : Pair). stand p.0) (left_of entries b writes numbers (map pair_of ls)) ≡ map placed ls
+      stay : (ls : List HeldListener) → map (λ (p : Pair). stand p.0) (left_of entries b writes numbers (map pair_of ls)) ≡ map placed ls
       stay [] = refl
       stay (l ∷ ls) = λ i. one (pair_of l) i ∷ stay ls i
 
-pub placed_renewed : (b : Brought) (writes : List Write) (h : Held) (l : Listener) → listener_of h ≡ renewed b writes l → placed h ≡ record { path = l.query.path; number = l.number; seat = l.seat }
+pub placed_renewed : (b : Brought) (writes : List Write) (h : HeldListener) (l : Listener) → listener_of h ≡ renewed b writes l → placed h ≡ record { path = l.query.path; number = l.number; seat = l.seat }
 placed_renewed b writes h l e = placed_with [] b writes h l e

@@ -19,8 +19,8 @@ use Rattle.rt_world.specs.After.{renewed}
 use Rattle.rt_world.specs.Met.{told}
 use Rattle.rt_world.specs.Views.{is_known, view_of as view_at}
 use Rattle.rt_world.specs.World.{Listener}
-use Rattle.rt_parts.specs.declared.listeners.Held.{Held}
-use Rattle.rt_parts.specs.declared.places.Place.{Place}
+use Rattle.rt_parts.specs.declared.listeners.HeldListener.{HeldListener}
+use Rattle.rt_parts.specs.declared.places.ListenerPlace.{ListenerPlace}
 use Rattle.rt_parts.specs.inside.HeldView.{HaveSupplied, listener_of, listeners_of, pair_of, renewal_told_at, renewed_at, renewed_pair, views_of}
 use Rattle.rt_parts.specs.inside.Placed.{HaveAt, HaveNumbers, Keeps, placed}
 use Rattle.rt_parts.specs.Listeners.{count_if}
@@ -90,10 +90,10 @@ module _ (queries : List Query) (b : Brought) (writes : List Write) where
   abbrev pub of : Pair → Bool
   of p = is_among queries p.0.query
 
-  abbrev pub HaveAll : List ℕ → List Held → Type 0
-  HaveAll numbers ls = All (λ (l : Held). is_among queries l.query ≡ true → list_any (λ n. l.number == n) numbers ≡ true) ls
+  abbrev pub HaveAll : List ℕ → List HeldListener → Type 0
+  HaveAll numbers ls = All (λ (l : HeldListener). is_among queries l.query ≡ true → list_any (λ n. l.number == n) numbers ≡ true) ls
 
-  pub of_pairs : (numbers : List ℕ) (ls : List Held) → HaveAll numbers ls → All (λ (p : Pair). of p ≡ true → list_any (λ n. p.0.number == n) numbers ≡ true) (map pair_of ls)
+  pub of_pairs : (numbers : List ℕ) (ls : List HeldListener) → HaveAll numbers ls → All (λ (p : Pair). of p ≡ true → list_any (λ n. p.0.number == n) numbers ≡ true) (map pair_of ls)
   of_pairs numbers [] h = λ k d lt. absurd (omega arith)
   of_pairs numbers (l ∷ ls) h = All-cons (λ (p : Pair). of p ≡ true → list_any (λ n. p.0.number == n) numbers ≡ true) (pair_of l) (map pair_of ls) (h 0 l (omega arith)) (of_pairs numbers ls (λ k d lt. h (suc k) d (omega arith)))
 
@@ -104,19 +104,19 @@ module _ (queries : List Query) (b : Brought) (writes : List Write) where
   untold p e = ap (λ z. cond z (told b writes p.0) None) e
 
   -- where the numbers of all that have one of the queries are given, all are renewed
-  pub left_all : (numbers : List ℕ) (ls : List Held) → HaveAll numbers ls → left_of numbers (map pair_of ls) ≡ map (renewed_pair queries b writes) (map pair_of ls)
+  pub left_all : (numbers : List ℕ) (ls : List HeldListener) → HaveAll numbers ls → left_of numbers (map pair_of ls) ≡ map (renewed_pair queries b writes) (map pair_of ls)
   left_all numbers ls h = by.changed_all number_of (renewed_pair queries b writes) told_pair of numbers (map pair_of ls) others (of_pairs numbers ls h)
 
-  pub told_all : (numbers : List ℕ) (ls : List Held) → HaveAll numbers ls → told_left numbers (map pair_of ls) ≡ all_told_of queries b writes (listeners_of ls)
+  pub told_all : (numbers : List ℕ) (ls : List HeldListener) → HaveAll numbers ls → told_left numbers (map pair_of ls) ≡ all_told_of queries b writes (listeners_of ls)
   told_all numbers ls h = by.told_all number_of (renewed_pair queries b writes) told_pair of numbers (map pair_of ls) untold (of_pairs numbers ls h) ∙ of_listeners ls
     where
-      of_listeners : (xs : List Held) → filter_map told_pair (map pair_of xs) ≡ all_told_of queries b writes (listeners_of xs)
+      of_listeners : (xs : List HeldListener) → filter_map told_pair (map pair_of xs) ≡ all_told_of queries b writes (listeners_of xs)
       of_listeners [] = refl
       of_listeners (x ∷ xs) = ap (cons_option (told_of queries b writes (listener_of x))) (of_listeners xs)
 
   -- ---- a renewed listener stands where it stood
 
-  abbrev stand : Listener → Place
+  abbrev stand : Listener → ListenerPlace
   stand l = record { path = l.query.path; number = l.number; seat = l.seat }
 
   stand_stays : (p : Pair) → stand (renewed_pair queries b writes p).0 ≡ stand p.0
@@ -128,38 +128,38 @@ module _ (queries : List Query) (b : Brought) (writes : List Write) where
       kept : (l : Listener) → stand (renewed b writes l) ≡ stand l
       kept l = elim (l.is_primed || is_known b writes l.query) as (λ z. stand (cond z (primed l) l) ≡ stand l) [ true ↦ refl | false ↦ refl ]
 
-  pub placed_same : (old new : List Held) → map pair_of new ≡ map (renewed_pair queries b writes) (map pair_of old) → map placed new ≡ map placed old
+  pub placed_same : (old new : List HeldListener) → map pair_of new ≡ map (renewed_pair queries b writes) (map pair_of old) → map placed new ≡ map placed old
   placed_same old new e = read new ∙ ap (map (λ (p : Pair). stand p.0)) e ∙ stay old
     where
-      read : (ls : List Held) → map placed ls ≡ map (λ (p : Pair). stand p.0) (map pair_of ls)
+      read : (ls : List HeldListener) → map placed ls ≡ map (λ (p : Pair). stand p.0) (map pair_of ls)
       read [] = refl
       read (l ∷ ls) = ap (λ z. placed l ∷ z) (read ls)
 
-      stay : (ls : List Held) → map (λ (p : Pair). stand p.0) (map (renewed_pair queries b writes) (map pair_of ls)) ≡ map placed ls
+      stay : (ls : List HeldListener) → map (λ (p : Pair). stand p.0) (map (renewed_pair queries b writes) (map pair_of ls)) ≡ map placed ls
       stay [] = refl
       stay (l ∷ ls) = λ i. stand_stays (pair_of l) i ∷ stay ls i
 
   -- ---- listeners and views after it
 
-  pub all_listeners : (old new : List Held) → map pair_of new ≡ map (renewed_pair queries b writes) (map pair_of old) → listeners_of new ≡ map (renewed_of queries b writes) (listeners_of old)
+  pub all_listeners : (old new : List HeldListener) → map pair_of new ≡ map (renewed_pair queries b writes) (map pair_of old) → listeners_of new ≡ map (renewed_of queries b writes) (listeners_of old)
   all_listeners old new e = read new ∙ ap (map (λ (p : Pair). p.0)) e ∙ each old
     where
-      read : (ls : List Held) → listeners_of ls ≡ map (λ (p : Pair). p.0) (map pair_of ls)
+      read : (ls : List HeldListener) → listeners_of ls ≡ map (λ (p : Pair). p.0) (map pair_of ls)
       read [] = refl
       read (l ∷ ls) = ap (λ z. listener_of l ∷ z) (read ls)
 
-      each : (ls : List Held) → map (λ (p : Pair). p.0) (map (renewed_pair queries b writes) (map pair_of ls)) ≡ map (renewed_of queries b writes) (listeners_of ls)
+      each : (ls : List HeldListener) → map (λ (p : Pair). p.0) (map (renewed_pair queries b writes) (map pair_of ls)) ≡ map (renewed_of queries b writes) (listeners_of ls)
       each [] = refl
       each (l ∷ ls) = ap (λ z. renewed_of queries b writes (listener_of l) ∷ z) (each ls)
 
-  pub all_views : (old new : List Held) → map pair_of new ≡ map (renewed_pair queries b writes) (map pair_of old) → views_of new ≡ map (view_of queries b writes) (zip (listeners_of old) (views_of old))
+  pub all_views : (old new : List HeldListener) → map pair_of new ≡ map (renewed_pair queries b writes) (map pair_of old) → views_of new ≡ map (view_of queries b writes) (zip (listeners_of old) (views_of old))
   all_views old new e = read new ∙ ap (map (λ (p : Pair). p.1)) e ∙ each old
     where
-      read : (ls : List Held) → views_of ls ≡ map (λ (p : Pair). p.1) (map pair_of ls)
+      read : (ls : List HeldListener) → views_of ls ≡ map (λ (p : Pair). p.1) (map pair_of ls)
       read [] = refl
       read (l ∷ ls) = ap (λ z. l.view ∷ z) (read ls)
 
-      each : (ls : List Held) → map (λ (p : Pair). p.1) (map (renewed_pair queries b writes) (map pair_of ls)) ≡ map (view_of queries b writes) (zip (listeners_of ls) (views_of ls))
+      each : (ls : List HeldListener) → map (λ (p : Pair). p.1) (map (renewed_pair queries b writes) (map pair_of ls)) ≡ map (view_of queries b writes) (zip (listeners_of ls) (views_of ls))
       each [] = refl
       each (l ∷ ls) = ap (λ z. view_of queries b writes (pair_of l) ∷ z) (each ls)
 
@@ -190,7 +190,7 @@ pub none_renewed : (b : Brought) (writes : List Write) (ls : List Listener) → 
 none_renewed b writes [] = refl
 none_renewed b writes (l ∷ ls) = ap (λ z. l ∷ z) (none_renewed b writes ls)
 
-pub none_viewed : (b : Brought) (writes : List Write) (ls : List Held) → views_of ls ≡ map (view_of [] b writes) (zip (listeners_of ls) (views_of ls))
+pub none_viewed : (b : Brought) (writes : List Write) (ls : List HeldListener) → views_of ls ≡ map (view_of [] b writes) (zip (listeners_of ls) (views_of ls))
 none_viewed b writes [] = refl
 none_viewed b writes (l ∷ ls) = ap (λ z. l.view ∷ z) (none_viewed b writes ls)
 
@@ -215,10 +215,10 @@ or_cases false b e f g = g e
 had_at : (queries : List Query) (p r : Path) → list_any (λ (q : Query). path_eq q.path p) queries ≡ true → path_eq p r ≡ true → list_any (λ (q : Query). path_eq q.path r) queries ≡ true
 had_at queries p r e same = subst (λ z. list_any (λ (q : Query). path_eq q.path z) queries ≡ true) (path_eq-is p r same) e
 
-pub paths_same : (places : List Place) (numbers : List ℕ) (queries : List Query) (i : ℕ) (q : Query) → i < length queries → q ≡ get_or queries i q
+pub paths_same : (places : List ListenerPlace) (numbers : List ℕ) (queries : List Query) (i : ℕ) (q : Query) → i < length queries → q ≡ get_or queries i q
     → list_any (λ (r : Query). path_eq r.path q.path) (take i queries) ≡ true → HaveAt (take i queries) numbers places → HaveAt (take (i + 1) queries) numbers places
 paths_same places numbers queries i q within at had all k d lt e =
-    let x : Place = get_or places k d in
+    let x : ListenerPlace = get_or places k d in
     or_cases (list_any (λ (r : Query). path_eq r.path x.path) (take i queries)) (path_eq q.path x.path)
     (ap (λ (z : Query). list_any (λ (r : Query). path_eq r.path x.path) (take i queries) || path_eq z.path x.path) at
     ∙ sym (list_any_more (λ (r : Query). path_eq r.path x.path) queries i q within) ∙ e)
@@ -226,24 +226,24 @@ paths_same places numbers queries i q within at had all k d lt e =
     (λ f. all k d lt (had_at (take i queries) q.path x.path had f))
 
 -- and one more does
-pub paths_more : (places : List Place) (old new : List ℕ) (queries : List Query) (i : ℕ) (q : Query) (p : Path) → i < length queries → q ≡ get_or queries i q → p ≡ q.path
-    → Keeps old new → HaveNumbers (λ (x : Place). path_eq x.path p) new places → HaveAt (take i queries) old places → HaveAt (take (i + 1) queries) new places
+pub paths_more : (places : List ListenerPlace) (old new : List ℕ) (queries : List Query) (i : ℕ) (q : Query) (p : Path) → i < length queries → q ≡ get_or queries i q → p ≡ q.path
+    → Keeps old new → HaveNumbers (λ (x : ListenerPlace). path_eq x.path p) new places → HaveAt (take i queries) old places → HaveAt (take (i + 1) queries) new places
 paths_more places old new queries i q p within at is kept one all k d lt e =
-    let x : Place = get_or places k d in
+    let x : ListenerPlace = get_or places k d in
     or_cases (list_any (λ (r : Query). path_eq r.path x.path) (take i queries)) (path_eq q.path x.path)
     (ap (λ (z : Query). list_any (λ (r : Query). path_eq r.path x.path) (take i queries) || path_eq z.path x.path) at
     ∙ sym (list_any_more (λ (r : Query). path_eq r.path x.path) queries i q within) ∙ e)
     (λ f. kept (λ n. x.number == n) (all k d lt f))
     (λ f. one k d lt (path_eq-symm x.path p ∙ ap (λ z. path_eq z x.path) is ∙ f))
 
-pub none_at : (places : List Place) (numbers : List ℕ) (queries : List Query) → HaveAt (take 0 queries) numbers places
+pub none_at : (places : List ListenerPlace) (numbers : List ℕ) (queries : List Query) → HaveAt (take 0 queries) numbers places
 none_at places numbers queries k d lt e = absurd (true≢false (sym e))
 
 -- ---- the queries of a path
 
 -- those that a listener of some number has
-abbrev pub has_of : List Held → Query → ℕ → Bool
-has_of ls q n = list_any (λ (l : Held). l.number == n && query_eq l.query q) ls
+abbrev pub has_of : List HeldListener → Query → ℕ → Bool
+has_of ls q n = list_any (λ (l : HeldListener). l.number == n && query_eq l.query q) ls
 
 distributed : (f s a b : Bool) → ((f && s && a) || (f && s && b)) ≡ (f && s && (a || b))
 distributed true true a b = refl
@@ -251,7 +251,7 @@ distributed true false a b = refl
 distributed false s a b = refl
 
 -- one number more
-pub more_of : (ls : List Held) (q : Query) (numbers : List ℕ) (i n : ℕ) (f s old new : Bool) → i < length numbers → n ≡ get_or numbers i n
+pub more_of : (ls : List HeldListener) (q : Query) (numbers : List ℕ) (i n : ℕ) (f s old new : Bool) → i < length numbers → n ≡ get_or numbers i n
     → old ≡ (f && s && list_any (has_of ls q) (take i numbers)) → new ≡ (old || (f && s && has_of ls q n))
     → new ≡ (f && s && list_any (has_of ls q) (take (i + 1) numbers))
 more_of ls q numbers i n f s old new within at before more =
@@ -264,7 +264,7 @@ both_false true true = refl
 both_false true false = refl
 both_false false s = refl
 
-pub none_of : (ls : List Held) (q : Query) (numbers : List ℕ) (f s : Bool) → false ≡ (f && s && list_any (has_of ls q) (take 0 numbers))
+pub none_of : (ls : List HeldListener) (q : Query) (numbers : List ℕ) (f s : Bool) → false ≡ (f && s && list_any (has_of ls q) (take 0 numbers))
 none_of ls q numbers f s = sym (both_false f s)
 
 or_none : (a : Bool) → a ≡ (a || false)
@@ -333,31 +333,31 @@ among_once [] q = refl
 among_once (x ∷ xs) q = among_from x xs q
 
 -- the numbers of all at the path bring all their queries
-pub all_of_path : (ls : List Held) (p : Path) (numbers : List ℕ) (q : Query) → All (λ (l : Held). path_eq l.query.path p ≡ true → list_any (λ n. l.number == n) numbers ≡ true) ls
+pub all_of_path : (ls : List HeldListener) (p : Path) (numbers : List ℕ) (q : Query) → All (λ (l : HeldListener). path_eq l.query.path p ≡ true → list_any (λ n. l.number == n) numbers ≡ true) ls
     → (is_filtered q && path_eq q.path p && list_any (has_of ls q) numbers) ≡ (is_filtered q && path_eq q.path p && list_any (λ (l : Listener). query_eq l.query q) (listeners_of ls))
 all_of_path ls p numbers q all = at (path_eq q.path p) refl
   where
-    read : (xs : List Held) → list_any (λ (l : Listener). query_eq l.query q) (listeners_of xs) ≡ list_any (λ (l : Held). query_eq l.query q) xs
+    read : (xs : List HeldListener) → list_any (λ (l : Listener). query_eq l.query q) (listeners_of xs) ≡ list_any (λ (l : HeldListener). query_eq l.query q) xs
     read [] = refl
     read (x ∷ xs) = ap (λ b. query_eq x.query q || b) (read xs)
 
-    some : list_any (has_of ls q) numbers ≡ true → list_any (λ (l : Held). query_eq l.query q) ls ≡ true
+    some : list_any (has_of ls q) numbers ≡ true → list_any (λ (l : HeldListener). query_eq l.query q) ls ≡ true
     some e =
         let n = Any-from_list_any (has_of ls q) numbers e in
-        let l = Any-from_list_any (λ (l : Held). l.number == n.1 && query_eq l.query q) ls n.4 in
-        list_any_at (λ (x : Held). query_eq x.query q) ls l.0 l.1 l.2 (ap (λ (x : Held). query_eq x.query q) l.3 ∙ second ((l.1).number == n.1) (query_eq (l.1).query q) l.4)
+        let l = Any-from_list_any (λ (l : HeldListener). l.number == n.1 && query_eq l.query q) ls n.4 in
+        list_any_at (λ (x : HeldListener). query_eq x.query q) ls l.0 l.1 l.2 (ap (λ (x : HeldListener). query_eq x.query q) l.3 ∙ second ((l.1).number == n.1) (query_eq (l.1).query q) l.4)
       where
         second : (a b : Bool) → (a && b) ≡ true → b ≡ true
         second true b h = h
         second false b h = absurd (true≢false (sym h))
 
-    back : path_eq q.path p ≡ true → list_any (λ (l : Held). query_eq l.query q) ls ≡ true → list_any (has_of ls q) numbers ≡ true
+    back : path_eq q.path p ≡ true → list_any (λ (l : HeldListener). query_eq l.query q) ls ≡ true → list_any (has_of ls q) numbers ≡ true
     back here e =
-        let l = Any-from_list_any (λ (x : Held). query_eq x.query q) ls e in
-        let there : path_eq (get_or ls l.0 l.1).query.path p ≡ true = ap (λ (x : Held). path_eq x.query.path p) l.3 ∙ ap (λ (x : Query). path_eq x.path p) ((query_eq_tells (l.1).query q).0 l.4) ∙ here in
+        let l = Any-from_list_any (λ (x : HeldListener). query_eq x.query q) ls e in
+        let there : path_eq (get_or ls l.0 l.1).query.path p ≡ true = ap (λ (x : HeldListener). path_eq x.query.path p) l.3 ∙ ap (λ (x : Query). path_eq x.path p) ((query_eq_tells (l.1).query q).0 l.4) ∙ here in
         let n = Any-from_list_any (λ n. (get_or ls l.0 l.1).number == n) numbers (all l.0 l.1 l.2 there) in
-        let own : ((get_or ls l.0 l.1).number == n.1 && query_eq (get_or ls l.0 l.1).query q) ≡ true = (λ i. n.4 i && (ap (λ (x : Held). query_eq x.query q) l.3 ∙ l.4) i) in
-        list_any_at (has_of ls q) numbers n.0 n.1 n.2 (ap (has_of ls q) n.3 ∙ list_any_at (λ (x : Held). x.number == n.1 && query_eq x.query q) ls l.0 l.1 l.2 own)
+        let own : ((get_or ls l.0 l.1).number == n.1 && query_eq (get_or ls l.0 l.1).query q) ≡ true = (λ i. n.4 i && (ap (λ (x : HeldListener). query_eq x.query q) l.3 ∙ l.4) i) in
+        list_any_at (has_of ls q) numbers n.0 n.1 n.2 (ap (has_of ls q) n.3 ∙ list_any_at (λ (x : HeldListener). x.number == n.1 && query_eq x.query q) ls l.0 l.1 l.2 own)
 
     nothing : (f a : Bool) → (f && false && a) ≡ false
     nothing true a = refl
@@ -370,13 +370,13 @@ all_of_path ls p numbers q all = at (path_eq q.path p) refl
 
     at : (b : Bool) → path_eq q.path p ≡ b
         → (is_filtered q && path_eq q.path p && list_any (has_of ls q) numbers) ≡ (is_filtered q && path_eq q.path p && list_any (λ (l : Listener). query_eq l.query q) (listeners_of ls))
-    at true e = ap (λ b. is_filtered q && path_eq q.path p && b) (same (list_any (has_of ls q) numbers) (list_any (λ (l : Held). query_eq l.query q) ls) some (back e) ∙ sym (read ls))
+    at true e = ap (λ b. is_filtered q && path_eq q.path p && b) (same (list_any (has_of ls q) numbers) (list_any (λ (l : HeldListener). query_eq l.query q) ls) some (back e) ∙ sym (read ls))
     at false e =
         ap (λ b. is_filtered q && b && list_any (has_of ls q) numbers) e ∙ nothing (is_filtered q) (list_any (has_of ls q) numbers)
         ∙ sym (ap (λ b. is_filtered q && b && list_any (λ (l : Listener). query_eq l.query q) (listeners_of ls)) e ∙ nothing (is_filtered q) (list_any (λ (l : Listener). query_eq l.query q) (listeners_of ls)))
 
 -- those of the numbers of a range bring the queries that it supplies
-pub supplied_of_path : (ls : List Held) (range : Query) (numbers : List ℕ) (q : Query) → HaveSupplied range numbers ls
+pub supplied_of_path : (ls : List HeldListener) (range : Query) (numbers : List ℕ) (q : Query) → HaveSupplied range numbers ls
     → (is_filtered q && path_eq q.path range.path && list_any (has_of ls q) numbers)
     ≡ ((is_filtered q && path_eq q.path range.path && list_any (λ (l : Listener). query_eq l.query q) (listeners_of ls)) && does_supply range q)
 supplied_of_path ls range numbers q all = at (is_filtered q) (path_eq q.path range.path) refl
@@ -384,31 +384,31 @@ supplied_of_path ls range numbers q all = at (is_filtered q) (path_eq q.path ran
     heard : Bool
     heard = list_any (λ (l : Listener). query_eq l.query q) (listeners_of ls)
 
-    read : (xs : List Held) → list_any (λ (l : Listener). query_eq l.query q) (listeners_of xs) ≡ list_any (λ (l : Held). query_eq l.query q) xs
+    read : (xs : List HeldListener) → list_any (λ (l : Listener). query_eq l.query q) (listeners_of xs) ≡ list_any (λ (l : HeldListener). query_eq l.query q) xs
     read [] = refl
     read (x ∷ xs) = ap (λ b. query_eq x.query q || b) (read xs)
 
     -- a listener of the query, and whether its number is one of these
-    tested : (k : ℕ) (d : Held) → k < length ls → query_eq (get_or ls k d).query q ≡ true → list_any (λ n. (get_or ls k d).number == n) numbers ≡ is_supplied_at range q
+    tested : (k : ℕ) (d : HeldListener) → k < length ls → query_eq (get_or ls k d).query q ≡ true → list_any (λ n. (get_or ls k d).number == n) numbers ≡ is_supplied_at range q
     tested k d lt e = all k d lt ∙ ap (is_supplied_at range) ((query_eq_tells (get_or ls k d).query q).0 e)
 
     there : list_any (has_of ls q) numbers ≡ true → (heard && is_supplied_at range q) ≡ true
     there e =
         let n = Any-from_list_any (has_of ls q) numbers e in
-        let l = Any-from_list_any (λ (x : Held). x.number == n.1 && query_eq x.query q) ls n.4 in
-        let own : query_eq (get_or ls l.0 l.1).query q ≡ true = ap (λ (x : Held). query_eq x.query q) l.3 ∙ both_second ((l.1).number == n.1) (query_eq (l.1).query q) l.4 in
+        let l = Any-from_list_any (λ (x : HeldListener). x.number == n.1 && query_eq x.query q) ls n.4 in
+        let own : query_eq (get_or ls l.0 l.1).query q ≡ true = ap (λ (x : HeldListener). query_eq x.query q) l.3 ∙ both_second ((l.1).number == n.1) (query_eq (l.1).query q) l.4 in
         let number : list_any (λ m. (get_or ls l.0 l.1).number == m) numbers ≡ true =
         list_any_at (λ m. (get_or ls l.0 l.1).number == m) numbers n.0 n.1 n.2
         ((λ i. (l.3 i).number == n.3 i) ∙ both_first ((l.1).number == n.1) (query_eq (l.1).query q) l.4) in
-        both heard (is_supplied_at range q) (read ls ∙ list_any_at (λ (x : Held). query_eq x.query q) ls l.0 l.1 l.2 own) (sym (tested l.0 l.1 l.2 own) ∙ number)
+        both heard (is_supplied_at range q) (read ls ∙ list_any_at (λ (x : HeldListener). query_eq x.query q) ls l.0 l.1 l.2 own) (sym (tested l.0 l.1 l.2 own) ∙ number)
 
     back : (heard && is_supplied_at range q) ≡ true → list_any (has_of ls q) numbers ≡ true
     back e =
-        let l = Any-from_list_any (λ (x : Held). query_eq x.query q) ls (sym (read ls) ∙ both_first heard (is_supplied_at range q) e) in
-        let own : query_eq (get_or ls l.0 l.1).query q ≡ true = ap (λ (x : Held). query_eq x.query q) l.3 ∙ l.4 in
+        let l = Any-from_list_any (λ (x : HeldListener). query_eq x.query q) ls (sym (read ls) ∙ both_first heard (is_supplied_at range q) e) in
+        let own : query_eq (get_or ls l.0 l.1).query q ≡ true = ap (λ (x : HeldListener). query_eq x.query q) l.3 ∙ l.4 in
         let n = Any-from_list_any (λ m. (get_or ls l.0 l.1).number == m) numbers (tested l.0 l.1 l.2 own ∙ both_second heard (is_supplied_at range q) e) in
         list_any_at (has_of ls q) numbers n.0 n.1 n.2 (ap (has_of ls q) n.3
-        ∙ list_any_at (λ (x : Held). x.number == n.1 && query_eq x.query q) ls l.0 l.1 l.2 (both ((get_or ls l.0 l.1).number == n.1) (query_eq (get_or ls l.0 l.1).query q) n.4 own))
+        ∙ list_any_at (λ (x : HeldListener). x.number == n.1 && query_eq x.query q) ls l.0 l.1 l.2 (both ((get_or ls l.0 l.1).number == n.1) (query_eq (get_or ls l.0 l.1).query q) n.4 own))
 
     same : (a b : Bool) → (a ≡ true → b ≡ true) → (b ≡ true → a ≡ true) → a ≡ b
     same true b f g = sym (f refl)

@@ -18,7 +18,7 @@ use Rattle.rt_world.specs.After.{renewed}
 use Rattle.rt_world.specs.Answers.{batch_note, batch_from}
 use Rattle.rt_world.specs.Met.{seeing, told}
 use Rattle.rt_world.specs.Touched.{is_covered}
-use Rattle.rt_parts.specs.declared.listeners.Held.{Held}
+use Rattle.rt_parts.specs.declared.listeners.HeldListener.{HeldListener}
 use Rattle.rt_parts.specs.inside.HeldView.{IsHeld, IsViewOf, listener_of, pair_of, shown_in}
 use Rattle.rt_parts.specs.inside.Named.{AreNamed}
 use Rattle.rt_parts.specs.Refreshed.{FollowsNamed, is_touched, named_children, view_after}
@@ -46,7 +46,7 @@ told_not b ws l e v =
 
 -- ---- a view that is touched
 
-module _ (b : Brought) (ws : List Write) (entries : List Assignment) (l : Held) (named : List (Key × PathTree)) (h : AreNamed entries b ws l.query named) (low : is_covered l.query.path entries ≡ false) where
+module _ (b : Brought) (ws : List Write) (entries : List Assignment) (l : HeldListener) (named : List (Key × PathTree)) (h : AreNamed entries b ws l.query named) (low : is_covered l.query.path entries ≡ false) where
   abbrev seen : PathTree
   seen = seen_over (base b l.query) ws l.query
 
@@ -70,7 +70,7 @@ module _ (b : Brought) (ws : List Write) (entries : List Assignment) (l : Held) 
       ap Some (sym (ap (λ t. cond t (touched v arrived) (taken v seen)) (λ i. not (low i) && (sym (stays_named entries b ws l.query named h v.tree) ∙ e) i)))
 
   module _ (stays : option_map_or (λ (v : View). stays_object v.tree named) l.view false ≡ true) (held : IsHeld l) (follow : FollowsNamed entries b ws (pair_of l))
-      {count : ℕ} (new : Held) (is : new ≡ record l { view = option_map (λ (v : View). touched v named) l.view; count = count }) where
+      {count : ℕ} (new : HeldListener) (is : new ≡ record l { view = option_map (λ (v : View). touched v named) l.view; count = count }) where
     object_in : (v : View) → l.view ≡ Some v → stays_object v.tree named ≡ true
     object_in v e = sym (ap (λ o. option_map_or (λ (x : View). stays_object x.tree named) o false) e) ∙ stays
 

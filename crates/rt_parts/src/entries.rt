@@ -8,7 +8,7 @@ ghost use Rattle.rt_tree.specs.Assignments.{do_overlap};
 ghost use Rattle.rt_parts.specs.inside.Pairs.{AreUp, HaveAll, HavePairs, KeepsPairs, met_cmp};
 ghost use Rattle.rt_parts.specs.inside.Placed.{AreInOrder};
 
-use crate::places::{Place, push_met, sort_once};
+use crate::places::{ListenerPlace, push_met, sort_once};
 use rt_tree::{Path, Tree};
 use std::alloc::{AllocError, Global};
 
@@ -27,7 +27,7 @@ fn push_each(pairs: &mut Vec<(u64, usize)>, numbers: &[u64], entry: usize) -> Re
 fn push_pairs(
     alloc: Global,
     pairs: &mut Vec<(u64, usize)>,
-    places: &[Place],
+    places: &[ListenerPlace],
     path: &Path,
     entry: usize,
 ) -> Result<(), AllocError>
@@ -55,7 +55,7 @@ fn sort_pairs(pairs: &mut Vec<(u64, usize)>)
 // it.
 pub(crate) fn pairs_met(
     alloc: Global,
-    places: &[Place],
+    places: &[ListenerPlace],
     entries: &[(Path, Tree)],
 ) -> Result<Vec<(u64, usize)>, AllocError>
     requires { AreInOrder places.now }

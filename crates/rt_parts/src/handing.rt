@@ -9,8 +9,8 @@ ghost use Rattle.rt_parts.specs.inside.Pairs.{AreHanded};
 ghost use Rattle.rt_parts.specs.inside.Placed.{IsIndex};
 
 use crate::entries::{pairs_met, pairs_with};
-use crate::listeners::{Held, place_of};
-use crate::places::{Place, push_at, sort_once};
+use crate::listeners::{BoxedListener, place_of};
+use crate::places::{ListenerPlace, push_at, sort_once};
 use rt_query::Query;
 use rt_tree::{Path, Tree};
 use std::alloc::{AllocError, Global};
@@ -23,19 +23,19 @@ fn supplies_at(range: &Query, query: &Query) -> bool
 }
 
 // Whether it supplies the query of the listener of that number.
-fn is_supplied(listeners: &[Held], number: u64, range: &Query) -> bool
+fn is_supplied(listeners: &[BoxedListener], number: u64, range: &Query) -> bool
     requires { AllPairs (λ l m. l.number < m.number) listeners.now }
     ensures { result ≡ list_any (λ l. l.number == number && is_supplied_at range.now l.query)
         listeners.now }
 {
     match place_of(listeners, number) {
-        Some(at) => supplies_at(range, &listeners[at].query),
+        Some(at) => supplies_at(range, listeners[at].query()),
         None => false,
     }
 }
 
 // Leaves those of the numbers whose listeners it supplies.
-fn keep_supplied(numbers: &mut Vec<u64>, listeners: &[Held], range: &Query)
+fn keep_supplied(numbers: &mut Vec<u64>, listeners: &[BoxedListener], range: &Query)
     requires { AllPairs (λ l m. l.number < m.number) listeners.now }
     ensures { numbers.new.items ≡ filter (λ n. list_any (λ l. l.number == n
         && is_supplied_at range.now l.query) listeners.now) numbers.old.items }
@@ -47,8 +47,8 @@ fn keep_supplied(numbers: &mut Vec<u64>, listeners: &[Held], range: &Query)
 // halving, and each of them is asked by one comparison of ranges.
 pub(crate) fn numbers_supplied(
     alloc: Global,
-    listeners: &[Held],
-    places: &[Place],
+    listeners: &[BoxedListener],
+    places: &[ListenerPlace],
     range: &Query,
 ) -> Result<Vec<u64>, AllocError>
     requires rising { AllPairs (λ l m. l.number < m.number) listeners.now }
@@ -65,8 +65,8 @@ pub(crate) fn numbers_supplied(
 // The pairs of the listeners that the range supplies with each of the entries, which are pushed on its listen.
 fn pairs_supplied(
     alloc: Global,
-    listeners: &[Held],
-    places: &[Place],
+    listeners: &[BoxedListener],
+    places: &[ListenerPlace],
     range: &Query,
     entries: &[(Path, Tree)],
 ) -> Result<Vec<(u64, usize)>, AllocError>
@@ -81,8 +81,8 @@ fn pairs_supplied(
 // The pairs of listeners, by number, and of the entries that are handed to them, in order.
 pub(crate) fn pairs_handed(
     alloc: Global,
-    listeners: &[Held],
-    places: &[Place],
+    listeners: &[BoxedListener],
+    places: &[ListenerPlace],
     range: Option<&Query>,
     entries: &[(Path, Tree)],
 ) -> Result<Vec<(u64, usize)>, AllocError>

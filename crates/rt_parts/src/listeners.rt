@@ -24,7 +24,7 @@ ghost use Rattle.rt_parts.specs.inside.HeldView.{IsHeld, listener_of, shown_in, 
 use crate::entries::numbers_in;
 use crate::error::ShownError;
 use crate::handing::{numbers_supplied, pairs_handed};
-use crate::places::{Place, insert_place, push_at};
+use crate::places::{ListenerPlace, insert_place, push_at};
 use crate::renewal::{
     end_listened, end_number, end_seat, in_order, numbers_at, numbers_of_form, queries_of,
     renew_all, tell_ends,
@@ -42,11 +42,12 @@ use std::marker::Model;
 use std::mem::replace;
 
 /// The registered listeners, by number. A listener gets a view once something is known for its
-/// query, and keeps it. Beside them stand their places, by path, so that those that a step meets are
-/// found by halving.
+/// query, and keeps it. Each is in memory of its own, so that one that ends moves a pointer of each
+/// behind it. Beside them stand their places, by path, so that those that a step meets are found by
+/// halving.
 pub struct Listeners {
-    held: Vec<Held>,
-    places: Vec<Place>,
+    held: Vec<BoxedListener>,
+    places: Vec<ListenerPlace>,
 }
 
 impl Drop for Listeners {
@@ -243,7 +244,7 @@ impl Listeners {
         let listener = first(number, seat, query, brought, pending, notes)?;
         self.places.reserve(1)?;
         self.held.push(listener)?;
-        insert_place(&mut self.places, Place { path, number, seat });
+        insert_place(&mut self.places, ListenerPlace { path, number, seat });
         Ok(())
     }
 
@@ -351,7 +352,7 @@ impl Listeners {
 // A registered listener; it has a view once it is primed, and counts how many children were taken anew
 // for that, modulo 2^64. Nothing but the calls of this file changes the two: none of them throws a view
 // away, and each adds to the count what it takes.
-pub(crate) struct Held {
+pub(crate) struct HeldListener {
     pub(crate) number: u64,
     pub(crate) seat: u64,
     pub(crate) query: Query,
@@ -359,9 +360,9 @@ pub(crate) struct Held {
     count: u64,
 }
 
-impl Drop for Held {
+impl Drop for HeldListener {
     fn drop(self) {
-        let Held {
+        let HeldListener {
             number: _,
             seat: _,
             query: _,
@@ -371,37 +372,87 @@ impl Drop for Held {
     }
 }
 
+// A listener in memory of its own, so that a list of listeners moves a pointer of each.
+pub(crate) struct BoxedListener {
+    pub(crate) held: Box<HeldListener>,
+}
+
+impl Drop for BoxedListener {
+    fn drop(self) {
+        let BoxedListener { held: _ } = self;
+    }
+}
+
+impl Model for BoxedListener {
+    ghost use Rattle.rt_parts.specs.declared.listeners.HeldListener.{HeldListener};
+
+    ghost Value = { HeldListener };
+
+    ghost view = { λ a. a.held.value };
+}
+
+impl BoxedListener {
+    // Its number.
+    pub(crate) fn number(&self) -> u64
+        ensures { result ≡ self.now.number }
+    {
+        self.held.number
+    }
+
+    // Its seat.
+    pub(crate) fn seat(&self) -> u64
+        ensures { result ≡ self.now.seat }
+    {
+        self.held.seat
+    }
+
+    // What it listens to.
+    pub(crate) fn query(&self) -> &Query
+        ensures { result.now ≡ self.now.query }
+    {
+        &self.held.query
+    }
+}
+
 // A listener with no view. Where its count begins is nowhere told: no listener that is made anew stands
 // for one that is thrown away.
-pub(crate) fn unprimed(number: u64, seat: u64, query: Query) -> Held
-    ensures number { result.number ≡ number }
-    ensures seat { result.seat ≡ seat }
-    ensures query { result.query ≡ query }
-    ensures view { result.view ≡ None }
+pub(crate) fn unprimed(
+    alloc: Global,
+    number: u64,
+    seat: u64,
+    query: Query,
+) -> Result<BoxedListener, AllocError>
+    ensures number { IfOk result (λ l. l.number ≡ number) }
+    ensures seat { IfOk result (λ l. l.seat ≡ seat) }
+    ensures query { IfOk result (λ l. l.query ≡ query) }
+    ensures view { IfOk result (λ l. l.view ≡ None) }
 {
-    Held {
+    let listener = HeldListener {
         number,
         seat,
         query,
         view: None,
         count: 0,
-    }
+    };
+    Ok(BoxedListener {
+        held: Box::new(alloc, listener)?,
+    })
 }
 
 // Whether the listener has a view.
-pub(crate) fn is_primed(listener: &Held) -> bool
+pub(crate) fn is_primed(listener: &HeldListener) -> bool
     ensures { result ≡ is_some listener.now.view }
 {
     listener.view.is_some()
 }
 
 // What its view shows, if it has one.
-pub(crate) fn shown_of(listener: &Held) -> Result<Option<Shown>, AllocError>
+pub(crate) fn shown_of(listener: &BoxedListener) -> Result<Option<Shown>, AllocError>
     requires { IsHeld listener.now }
     ensures shown { IfOk result (λ shown. shown ≡ shown_in listener.now.view) }
     ensures memory { OnErr result (shown_in listener.now.view ≢ None) }
 {
-    match &listener.view {
+    match &listener.held.view {
         Some(view) => match view.shown() {
             Ok(shown) => Ok(Some(shown)),
             Err(_) => Err(AllocError),
@@ -411,7 +462,7 @@ pub(crate) fn shown_of(listener: &Held) -> Result<Option<Shown>, AllocError>
 }
 
 // Whether its view stays an object once these children are put into it; without a view it does not.
-pub(crate) fn stays_object(listener: &Held, named: &[(Key, Tree)]) -> bool
+pub(crate) fn stays_object(listener: &HeldListener, named: &[(Key, Tree)]) -> bool
     ensures { result ≡ option_map_or (λ v. stays_object v.tree named.now) listener.now.view false }
 {
     match &listener.view {
@@ -421,7 +472,7 @@ pub(crate) fn stays_object(listener: &Held, named: &[(Key, Tree)]) -> bool
 }
 
 // The listener sees that tree from now on: the changes of its view.
-pub(crate) fn show(listener: &mut Held, seen: Tree) -> Result<ChangeList, AllocError>
+pub(crate) fn show(listener: &mut HeldListener, seen: Tree) -> Result<ChangeList, AllocError>
     requires { IsHeld listener.old }
     ensures view { OnOk result (listener_of listener.new ≡ seeing seen (listener_of listener.old)) }
     ensures held { OnOk result (IsHeld listener.new) }
@@ -452,7 +503,10 @@ pub(crate) fn show(listener: &mut Held, seen: Tree) -> Result<ChangeList, AllocE
 }
 
 // Puts these children into the listener's view, which it has: the changes of the view.
-pub(crate) fn touch(listener: &mut Held, named: Vec<(Key, Tree)>) -> Result<ChangeList, AllocError>
+pub(crate) fn touch(
+    listener: &mut HeldListener,
+    named: Vec<(Key, Tree)>,
+) -> Result<ChangeList, AllocError>
     requires held { IsHeld listener.old }
     requires levels { All (λ c. levels c.1 ≤ MAX_KEYS) named.items }
     ensures listener { OnOk result (listener.new ≡ record listener.old {
@@ -481,15 +535,15 @@ pub(crate) fn touch(listener: &mut Held, named: Vec<(Key, Tree)>) -> Result<Chan
 }
 
 // Where the listener of that number stands, if it is registered, by halving.
-pub(crate) fn place_of(listeners: &[Held], number: u64) -> Option<usize>
+pub(crate) fn place_of(listeners: &[BoxedListener], number: u64) -> Option<usize>
     requires { AllPairs (λ l m. l.number < m.number) listeners.now }
     ensures { result ≡ position (λ l. l.number == number) listeners.now }
 {
-    let place = listeners.partition_point(|listener| listener.number < number);
+    let place = listeners.partition_point(|listener| listener.number() < number);
     if place == listeners.len() {
         return None;
     }
-    if listeners[place].number == number {
+    if listeners[place].number() == number {
         Some(place)
     } else {
         None
@@ -497,12 +551,12 @@ pub(crate) fn place_of(listeners: &[Held], number: u64) -> Option<usize>
 }
 
 // Whether the listener of that number is the seat's.
-pub(crate) fn is_seats(listeners: &[Held], seat: u64, number: u64) -> bool
+pub(crate) fn is_seats(listeners: &[BoxedListener], seat: u64, number: u64) -> bool
     requires { AllPairs (λ l m. l.number < m.number) listeners.now }
     ensures { result ≡ list_any (λ l. l.number == number && l.seat == seat) listeners.now }
 {
     match place_of(listeners, number) {
-        Some(place) => listeners[place].seat == seat,
+        Some(place) => listeners[place].seat() == seat,
         None => false,
     }
 }
@@ -517,7 +571,7 @@ pub(crate) fn first(
     brought: &Brought,
     pending: &Pending,
     notes: &mut Vec<Note>,
-) -> Result<Held, AllocError>
+) -> Result<BoxedListener, AllocError>
     ensures listener { IfOk result (λ l. listener_of l
         ≡ renewed brought.now pending.now (new_listener number seat query)) }
     ensures held { IfOk result (λ l. IsHeld l) }
@@ -526,7 +580,8 @@ pub(crate) fn first(
     ensures notes { OnOk result (notes.new.items ≡ notes.old.items
         ++ option_to_list (told brought.now pending.now (new_listener number seat query))) }
 {
-    let mut listener = unprimed(number, seat, query);
-    renew(&mut listener, brought, pending, notes)?;
+    let alloc = query.path().allocator();
+    let mut listener = unprimed(alloc, number, seat, query)?;
+    renew(&mut listener.held, brought, pending, notes)?;
     Ok(listener)
 }

@@ -6,22 +6,22 @@ ghost use Rattle.std.specs.List.Sorted.{IsPartitionPoint};
 ghost use Rattle.std.specs.Ordering.{is_eq, is_le, is_lt};
 ghost use Rattle.rt_tree.specs.PathTree.{path_cmp, path_eq};
 ghost use Rattle.rt_tree.specs.Assignments.{do_overlap, is_at_or_above};
-ghost use Rattle.rt_parts.specs.declared.places.Place.{Place};
+ghost use Rattle.rt_parts.specs.declared.places.ListenerPlace.{ListenerPlace};
 ghost use Rattle.rt_parts.specs.inside.Placed.{AreInOrder, HaveNumbers, Keeps, stand_cmp, stand_of};
 
 use rt_tree::{Key, Path};
 use std::alloc::AllocError;
 
 // A listener's path, with its number and its seat.
-pub(crate) struct Place {
+pub(crate) struct ListenerPlace {
     pub(crate) path: Path,
     pub(crate) number: u64,
     pub(crate) seat: u64,
 }
 
-impl Drop for Place {
+impl Drop for ListenerPlace {
     fn drop(self) {
-        let Place {
+        let ListenerPlace {
             path: _,
             number: _,
             seat: _,
@@ -30,7 +30,7 @@ impl Drop for Place {
 }
 
 // Whether it stands in front of a path and a number.
-fn is_before(place: &Place, path: &[Key], number: u64) -> bool
+fn is_before(place: &ListenerPlace, path: &[Key], number: u64) -> bool
     ensures { result ≡ is_lt (stand_cmp (stand_of place.now) (path.now, number)) }
 {
     place
@@ -42,7 +42,7 @@ fn is_before(place: &Place, path: &[Key], number: u64) -> bool
 }
 
 // Where the first stands that is not in front of a path and a number, by halving.
-fn first_from(places: &[Place], path: &[Key], number: u64) -> usize
+fn first_from(places: &[ListenerPlace], path: &[Key], number: u64) -> usize
     requires { AreInOrder places.now }
     ensures within { result ≤ length places.now }
     ensures point { IsPartitionPoint
@@ -53,14 +53,14 @@ fn first_from(places: &[Place], path: &[Key], number: u64) -> usize
 }
 
 // Whether its path does not stand behind this one.
-fn is_not_behind(place: &Place, path: &[Key]) -> bool
+fn is_not_behind(place: &ListenerPlace, path: &[Key]) -> bool
     ensures { result ≡ is_le (path_cmp place.now.path path.now) }
 {
     place.path.keys().cmp(path).is_le()
 }
 
 // Adds the numbers of these.
-fn push_numbers(numbers: &mut Vec<u64>, places: &[Place]) -> Result<(), AllocError>
+fn push_numbers(numbers: &mut Vec<u64>, places: &[ListenerPlace]) -> Result<(), AllocError>
     ensures { OnOk result (numbers.new.items
         ≡ numbers.old.items ++ map (λ x. x.number) places.now) }
 {
@@ -73,7 +73,7 @@ fn push_numbers(numbers: &mut Vec<u64>, places: &[Place]) -> Result<(), AllocErr
 // Adds the numbers of those of a path.
 pub(crate) fn push_at(
     numbers: &mut Vec<u64>,
-    places: &[Place],
+    places: &[ListenerPlace],
     path: &[Key],
 ) -> Result<(), AllocError>
     requires { AreInOrder places.now }
@@ -88,14 +88,18 @@ pub(crate) fn push_at(
 }
 
 // Whether its path is at or under this one.
-fn is_under(place: &Place, path: &Path) -> bool
+fn is_under(place: &ListenerPlace, path: &Path) -> bool
     ensures { result ≡ is_at_or_above path.now place.now.path }
 {
     path.is_prefix_of(&place.path)
 }
 
 // Adds the numbers of those at or under a path.
-fn push_under(numbers: &mut Vec<u64>, places: &[Place], path: &Path) -> Result<(), AllocError>
+fn push_under(
+    numbers: &mut Vec<u64>,
+    places: &[ListenerPlace],
+    path: &Path,
+) -> Result<(), AllocError>
     requires { AreInOrder places.now }
     ensures kept { OnOk result (Keeps numbers.old.items numbers.new.items) }
     ensures all { OnOk result (HaveNumbers (λ x. is_at_or_above path.now x.path)
@@ -108,7 +112,11 @@ fn push_under(numbers: &mut Vec<u64>, places: &[Place], path: &Path) -> Result<(
 }
 
 // Adds the numbers of those above a path.
-fn push_above(numbers: &mut Vec<u64>, places: &[Place], path: &[Key]) -> Result<(), AllocError>
+fn push_above(
+    numbers: &mut Vec<u64>,
+    places: &[ListenerPlace],
+    path: &[Key],
+) -> Result<(), AllocError>
     requires { AreInOrder places.now }
     ensures kept { OnOk result (Keeps numbers.old.items numbers.new.items) }
     ensures all { OnOk result (HaveNumbers
@@ -124,7 +132,7 @@ fn push_above(numbers: &mut Vec<u64>, places: &[Place], path: &[Key]) -> Result<
 // Adds the numbers of those at, above and under a path.
 pub(crate) fn push_met(
     numbers: &mut Vec<u64>,
-    places: &[Place],
+    places: &[ListenerPlace],
     path: &Path,
 ) -> Result<(), AllocError>
     requires { AreInOrder places.now }
@@ -146,13 +154,13 @@ pub(crate) fn sort_once(numbers: &mut Vec<u64>)
 }
 
 // Puts one in its place, for which there is room.
-pub(crate) fn insert_place(places: &mut Vec<Place>, place: Place)
+pub(crate) fn insert_place(places: &mut Vec<ListenerPlace>, place: ListenerPlace)
     requires order { AreInOrder places.old.items }
     requires free { All (λ x. is_eq (stand_cmp (stand_of x) (stand_of place)) ≡ false)
         places.old.items }
     requires room { vec_len places.old < vec_capacity places.old }
     ensures order { AreInOrder places.new.items }
-    ensures same { (p : Place → Bool) → list_any p places.new.items
+    ensures same { (p : ListenerPlace → Bool) → list_any p places.new.items
         ≡ (p place || list_any p places.old.items) }
 {
     let at = first_from(places, place.path.keys(), place.number);
@@ -160,14 +168,14 @@ pub(crate) fn insert_place(places: &mut Vec<Place>, place: Place)
 }
 
 // Whether it stands at the path, under the number.
-fn is_place(place: &Place, path: &Path, number: u64) -> bool
+fn is_place(place: &ListenerPlace, path: &Path, number: u64) -> bool
     ensures { result ≡ is_eq (stand_cmp (stand_of place.now) (path.now, number)) }
 {
     place.path == *path && place.number == number
 }
 
 // Takes out the one of the path and the number, if it is there, by halving.
-pub(crate) fn remove_place(places: &mut Vec<Place>, path: &Path, number: u64)
+pub(crate) fn remove_place(places: &mut Vec<ListenerPlace>, path: &Path, number: u64)
     requires { AreInOrder places.old.items }
     ensures { places.new.items
         ≡ filter (λ x. not (is_eq (stand_cmp (stand_of x) (path.now, number)))) places.old.items }

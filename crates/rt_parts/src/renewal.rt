@@ -19,8 +19,8 @@ ghost use Rattle.rt_parts.specs.inside.HeldView.{ended_at, HaveForm};
 ghost use Rattle.rt_parts.specs.inside.Placed.{AreInOrder, HaveAt, IsIndex};
 ghost use Rattle.rt_query.specs.Supply.{form};
 
-use crate::listeners::{Held, place_of};
-use crate::places::{Place, push_at, remove_place, sort_once};
+use crate::listeners::{BoxedListener, place_of};
+use crate::places::{ListenerPlace, push_at, remove_place, sort_once};
 use crate::views::renew;
 use rt_cache::Brought;
 use rt_order::Index;
@@ -104,7 +104,7 @@ fn is_filtered_at(query: &Query, path: &Path) -> bool
 // Adds the query of the listener of that number, where it is a filtered one of the path.
 fn push_query(
     queries: &mut Vec<Query>,
-    listeners: &[Held],
+    listeners: &[BoxedListener],
     number: u64,
     path: &Path,
 ) -> Result<(), AllocError>
@@ -116,7 +116,7 @@ fn push_query(
     let Some(at) = place_of(listeners, number) else {
         return Ok(());
     };
-    let query = &listeners[at].query;
+    let query = listeners[at].query();
     if !is_filtered_at(query, path) {
         return Ok(());
     }
@@ -135,7 +135,7 @@ fn sort_queries_once(queries: &mut Vec<Query>)
 // The filtered queries of the path that the listeners of these numbers have, each once.
 pub(crate) fn queries_of(
     alloc: Global,
-    listeners: &[Held],
+    listeners: &[BoxedListener],
     numbers: &[u64],
     path: &Path,
 ) -> Result<Vec<Query>, AllocError>
@@ -166,7 +166,7 @@ fn is_at(queries: &[Query], path: &Path) -> bool
 // the path too.
 fn push_next(
     numbers: &mut Vec<u64>,
-    places: &[Place],
+    places: &[ListenerPlace],
     queries: &[Query],
     at: usize,
 ) -> Result<(), AllocError>
@@ -187,7 +187,7 @@ fn push_next(
 // looked for once.
 pub(crate) fn numbers_at(
     alloc: Global,
-    places: &[Place],
+    places: &[ListenerPlace],
     queries: &[Query],
 ) -> Result<Vec<u64>, AllocError>
     requires { AreInOrder places.now }
@@ -204,7 +204,7 @@ pub(crate) fn numbers_at(
 
 // Takes the view from scratch, if the listener's query is one of these.
 fn renew_one(
-    listener: &mut Held,
+    listener: &mut BoxedListener,
     queries: &[Query],
     brought: &Brought,
     pending: &Pending,
@@ -222,15 +222,15 @@ fn renew_one(
     ensures notes { OnOk result (notes.new.items ≡ notes.old.items ++ option_to_list
         (told_of queries.now brought.now pending.now (listener_of listener.old))) }
 {
-    if !is_among(queries, &listener.query) {
+    if !is_among(queries, listener.query()) {
         return Ok(());
     }
-    renew(listener, brought, pending, notes)
+    renew(&mut listener.held, brought, pending, notes)
 }
 
 // Takes the view of the listener of that number from scratch, if its query is one of these.
 fn renew_number(
-    listeners: &mut [Held],
+    listeners: &mut [BoxedListener],
     number: u64,
     queries: &[Query],
     brought: &Brought,
@@ -259,7 +259,7 @@ fn renew_number(
 // Takes the views of those listeners from scratch, by number, whose query is one of these: the numbers
 // of all of them are among those that are given. No other listener is looked at.
 pub(crate) fn renew_all(
-    listeners: &mut [Held],
+    listeners: &mut [BoxedListener],
     numbers: &[u64],
     queries: &[Query],
     brought: &Brought,
@@ -289,7 +289,11 @@ pub(crate) fn renew_all(
 // ---- listeners that end
 
 // Takes out the listener of that number, and its place, if it is registered.
-pub(crate) fn end_number(held: &mut Vec<Held>, places: &mut Vec<Place>, number: u64)
+pub(crate) fn end_number(
+    held: &mut Vec<BoxedListener>,
+    places: &mut Vec<ListenerPlace>,
+    number: u64,
+)
     requires held { AreHeld held.old.items }
     requires index { IsIndex held.old.items places.old.items }
     ensures left { held.new.items ≡ filter (λ l. not (l.number == number)) held.old.items }
@@ -298,7 +302,7 @@ pub(crate) fn end_number(held: &mut Vec<Held>, places: &mut Vec<Place>, number: 
 {
     match place_of(held, number) {
         Some(at) => {
-            remove_place(places, held[at].query.path(), number);
+            remove_place(places, held[at].query().path(), number);
             drop(held.remove(at));
         }
         None => {}
@@ -306,7 +310,7 @@ pub(crate) fn end_number(held: &mut Vec<Held>, places: &mut Vec<Place>, number: 
 }
 
 // Takes out the listeners of the seat, and their places.
-pub(crate) fn end_seat(held: &mut Vec<Held>, places: &mut Vec<Place>, seat: u64)
+pub(crate) fn end_seat(held: &mut Vec<BoxedListener>, places: &mut Vec<ListenerPlace>, seat: u64)
     requires held { AreHeld held.old.items }
     requires index { IsIndex held.old.items places.old.items }
     ensures left { held.new.items ≡ filter (λ l. not (l.seat == seat)) held.old.items }
@@ -314,7 +318,7 @@ pub(crate) fn end_seat(held: &mut Vec<Held>, places: &mut Vec<Place>, seat: u64)
     ensures index { IsIndex held.new.items places.new.items }
 {
     places.retain(|place| place.seat != seat);
-    held.retain(|listener| listener.seat != seat);
+    held.retain(|listener| listener.seat() != seat);
 }
 
 // Whether what is listened to for the query is that form.
@@ -328,19 +332,19 @@ fn is_listened_as(query: &Query, listened: &Query) -> bool
 }
 
 // Whether what the listener of that number listens to is that form.
-fn has_form(listeners: &[Held], number: u64, listened: &Query) -> bool
+fn has_form(listeners: &[BoxedListener], number: u64, listened: &Query) -> bool
     requires { AllPairs (λ l m. l.number < m.number) listeners.now }
     ensures { result ≡ list_any (λ l. l.number == number && query_eq (form l.query) listened.now)
         listeners.now }
 {
     match place_of(listeners, number) {
-        Some(at) => is_listened_as(&listeners[at].query, listened),
+        Some(at) => is_listened_as(listeners[at].query(), listened),
         None => false,
     }
 }
 
 // Whether the place is of a listener of the form: of those at its path alone the listener is looked at.
-fn is_of_form(listeners: &[Held], place: &Place, listened: &Query) -> bool
+fn is_of_form(listeners: &[BoxedListener], place: &ListenerPlace, listened: &Query) -> bool
     requires { AllPairs (λ l m. l.number < m.number) listeners.now }
     ensures { result ≡ (path_eq place.now.path listened.now.path
         && list_any (λ l. l.number == place.now.number && query_eq (form l.query) listened.now)
@@ -350,7 +354,7 @@ fn is_of_form(listeners: &[Held], place: &Place, listened: &Query) -> bool
 }
 
 // Takes out the places of the listeners of the form.
-fn end_places(places: &mut Vec<Place>, listeners: &[Held], listened: &Query)
+fn end_places(places: &mut Vec<ListenerPlace>, listeners: &[BoxedListener], listened: &Query)
     requires { AllPairs (λ l m. l.number < m.number) listeners.now }
     ensures { places.new.items ≡ filter (λ x. not (path_eq x.path listened.now.path
         && list_any (λ l. l.number == x.number && query_eq (form l.query) listened.now)
@@ -360,7 +364,7 @@ fn end_places(places: &mut Vec<Place>, listeners: &[Held], listened: &Query)
 }
 
 // Takes out the listeners of the form, and their places.
-fn end_form(held: &mut Vec<Held>, places: &mut Vec<Place>, listened: &Query)
+fn end_form(held: &mut Vec<BoxedListener>, places: &mut Vec<ListenerPlace>, listened: &Query)
     requires held { AreHeld held.old.items }
     requires index { IsIndex held.old.items places.old.items }
     ensures left { held.new.items
@@ -369,14 +373,15 @@ fn end_form(held: &mut Vec<Held>, places: &mut Vec<Place>, listened: &Query)
     ensures index { IsIndex held.new.items places.new.items }
 {
     end_places(places, held, listened);
-    held.retain(|listener| !is_listened_as(&listener.query, listened));
+    held.retain(|listener| !is_listened_as(listener.query(), listened));
 }
 
-// Up to so many listeners are taken out one by one, which moves those behind each; more in one walk.
+// Up to so many listeners are taken out one by one, which moves a pointer of each behind them; more in one
+// walk.
 const FEW: usize = 4;
 
 // Takes out the listeners of these numbers, and their places.
-fn end_each(held: &mut Vec<Held>, places: &mut Vec<Place>, numbers: &[u64])
+fn end_each(held: &mut Vec<BoxedListener>, places: &mut Vec<ListenerPlace>, numbers: &[u64])
     requires held { AreHeld held.old.items }
     requires index { IsIndex held.old.items places.old.items }
     ensures left { held.new.items
@@ -391,8 +396,8 @@ fn end_each(held: &mut Vec<Held>, places: &mut Vec<Place>, numbers: &[u64])
 
 // Takes out the listeners of the form, which have these numbers, and their places.
 pub(crate) fn end_listened(
-    held: &mut Vec<Held>,
-    places: &mut Vec<Place>,
+    held: &mut Vec<BoxedListener>,
+    places: &mut Vec<ListenerPlace>,
     numbers: &[u64],
     listened: &Query,
 )
@@ -412,7 +417,7 @@ pub(crate) fn end_listened(
 }
 
 // Leaves those of the numbers whose listeners listen to the form.
-fn keep_of_form(numbers: &mut Vec<u64>, listeners: &[Held], listened: &Query)
+fn keep_of_form(numbers: &mut Vec<u64>, listeners: &[BoxedListener], listened: &Query)
     requires { AllPairs (λ l m. l.number < m.number) listeners.now }
     ensures { numbers.new.items ≡ filter (λ n. list_any (λ l. l.number == n
         && query_eq (form l.query) listened.now) listeners.now) numbers.old.items }
@@ -423,8 +428,8 @@ fn keep_of_form(numbers: &mut Vec<u64>, listeners: &[Held], listened: &Query)
 // The numbers of the listeners of the form, rising: of those at its path, which are found by halving.
 pub(crate) fn numbers_of_form(
     alloc: Global,
-    listeners: &[Held],
-    places: &[Place],
+    listeners: &[BoxedListener],
+    places: &[ListenerPlace],
     listened: &Query,
 ) -> Result<Vec<u64>, AllocError>
     requires rising { AllPairs (λ l m. l.number < m.number) listeners.now }
@@ -440,15 +445,15 @@ pub(crate) fn numbers_of_form(
 }
 
 // Tells the listener's seat that it ends.
-fn tell_end(listener: &Held, why: &Reason, notes: &mut Vec<Note>) -> Result<(), AllocError>
+fn tell_end(listener: &BoxedListener, why: &Reason, notes: &mut Vec<Note>) -> Result<(), AllocError>
     ensures { OnOk result (notes.new.items ≡ notes.old.items
         ++ cancelled_note why.now (listener_of listener.now) ∷ []) }
 {
     let alloc = *notes.allocator();
     notes.push(Note {
-        seat: listener.seat,
+        seat: listener.seat(),
         body: Body::Cancelled {
-            listener: listener.number,
+            listener: listener.number(),
             why: why.copy(alloc)?,
         },
     })?;
@@ -457,7 +462,7 @@ fn tell_end(listener: &Held, why: &Reason, notes: &mut Vec<Note>) -> Result<(), 
 
 // Tells the seat of the listener of that number that it ends, if it is registered.
 fn tell_number(
-    listeners: &[Held],
+    listeners: &[BoxedListener],
     number: u64,
     why: &Reason,
     notes: &mut Vec<Note>,
@@ -474,7 +479,7 @@ fn tell_number(
 
 // Tells the seats of the listeners of these numbers that these end, by number.
 pub(crate) fn tell_ends(
-    listeners: &[Held],
+    listeners: &[BoxedListener],
     numbers: &[u64],
     why: &Reason,
     notes: &mut Vec<Note>,

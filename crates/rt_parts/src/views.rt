@@ -28,7 +28,9 @@ ghost use Rattle.rt_parts.specs.inside.Named.{AreNamed, AreNamedKeys};
 
 use crate::entries::own_of;
 use crate::error::ShownError;
-use crate::listeners::{Held, is_primed, place_of, show, shown_of, stays_object, touch};
+use crate::listeners::{
+    BoxedListener, HeldListener, is_primed, place_of, show, shown_of, stays_object, touch,
+};
 use rt_cache::{Base, Brought};
 use rt_query::{Query, Shown};
 use rt_tree::{Key, MAX_KEYS, Path, Tree};
@@ -38,7 +40,7 @@ use rt_writes::{Pending, overlay_law};
 use std::alloc::{AllocError, Global};
 
 // Whether the listener has a view, or gets its first.
-fn is_due(listener: &Held, brought: &Brought, pending: &Pending) -> bool
+fn is_due(listener: &HeldListener, brought: &Brought, pending: &Pending) -> bool
     ensures { result ≡ ((listener_of listener.now).is_primed
         || is_known brought.now pending.now listener.now.query) }
 {
@@ -46,7 +48,11 @@ fn is_due(listener: &Held, brought: &Brought, pending: &Pending) -> bool
 }
 
 // Tells the listener's seat of these changes, if there are any.
-fn tell(notes: &mut Vec<Note>, listener: &Held, changes: ChangeList) -> Result<(), AllocError>
+fn tell(
+    notes: &mut Vec<Note>,
+    listener: &HeldListener,
+    changes: ChangeList,
+) -> Result<(), AllocError>
     ensures { OnOk result (notes.new.items
         ≡ notes.old.items ++ option_to_list (batch_note (listener_of listener.now) changes)) }
 {
@@ -66,7 +72,7 @@ fn tell(notes: &mut Vec<Note>, listener: &Held, changes: ChangeList) -> Result<(
 // Takes the view from scratch, where the listener has one or something is known for it, and tells
 // its seat what changes.
 pub(crate) fn renew(
-    listener: &mut Held,
+    listener: &mut HeldListener,
     brought: &Brought,
     pending: &Pending,
     notes: &mut Vec<Note>,
@@ -94,7 +100,7 @@ pub(crate) fn renew(
 // Touches the view with the children that the entries name, if it stays an object; else takes it from
 // scratch.
 fn touch_or_renew(
-    listener: &mut Held,
+    listener: &mut HeldListener,
     entries: &[(Path, Tree)],
     own: &[(u64, usize)],
     brought: &Brought,
@@ -180,7 +186,7 @@ fn is_covered(entries: &[(Path, Tree)], own: &[(u64, usize)], path: &Path) -> bo
 
 // Touches or renews the view, where an entry meets the listener's path; else it isn't looked at.
 fn refresh_one(
-    listener: &mut Held,
+    listener: &mut BoxedListener,
     entries: &[(Path, Tree)],
     own: &[(u64, usize)],
     brought: &Brought,
@@ -200,18 +206,18 @@ fn refresh_one(
     ensures notes { OnOk result (notes.new.items ≡ notes.old.items ++ option_to_list
         (told_met entries.now brought.now pending.now (listener_of listener.old))) }
 {
-    if !do_meet(entries, own, listener.query.path()) {
+    if !do_meet(entries, own, listener.query().path()) {
         return Ok(());
     }
-    if is_covered(entries, own, listener.query.path()) {
-        return renew(listener, brought, pending, notes);
+    if is_covered(entries, own, listener.query().path()) {
+        return renew(&mut listener.held, brought, pending, notes);
     }
-    touch_or_renew(listener, entries, own, brought, pending, notes)
+    touch_or_renew(&mut listener.held, entries, own, brought, pending, notes)
 }
 
 // Touches or renews the view of the listener of that number, if an entry meets its path.
 fn refresh_number(
-    listeners: &mut [Held],
+    listeners: &mut [BoxedListener],
     number: u64,
     entries: &[(Path, Tree)],
     met: &[(u64, usize)],
@@ -247,7 +253,7 @@ fn refresh_number(
 // their paths. The pairs tell which entries meet each of them. No other listener is looked at, and of each
 // no other entry.
 pub(crate) fn refresh(
-    listeners: &mut [Held],
+    listeners: &mut [BoxedListener],
     numbers: &[u64],
     entries: &[(Path, Tree)],
     met: &[(u64, usize)],
@@ -553,19 +559,23 @@ pub(crate) fn named_children(
 // ---- what is read of listeners
 
 // Adds the listener's number, if it is the seat's.
-fn push_own(numbers: &mut Vec<u64>, listener: &Held, seat: u64) -> Result<(), AllocError>
+fn push_own(numbers: &mut Vec<u64>, listener: &BoxedListener, seat: u64) -> Result<(), AllocError>
     ensures { OnOk result (numbers.new.items
         ≡ numbers.old.items ++ option_to_list (own_number seat listener.now)) }
 {
-    if listener.seat != seat {
+    if listener.seat() != seat {
         return Ok(());
     }
-    numbers.push(listener.number)?;
+    numbers.push(listener.number())?;
     Ok(())
 }
 
 // The numbers of the seat's listeners.
-pub(crate) fn numbers_of(alloc: Global, held: &[Held], seat: u64) -> Result<Vec<u64>, AllocError>
+pub(crate) fn numbers_of(
+    alloc: Global,
+    held: &[BoxedListener],
+    seat: u64,
+) -> Result<Vec<u64>, AllocError>
     ensures { IfOk result (λ numbers. numbers.items ≡ filter_map (own_number seat) held.now) }
 {
     let mut numbers = Vec::new(alloc);
@@ -576,7 +586,7 @@ pub(crate) fn numbers_of(alloc: Global, held: &[Held], seat: u64) -> Result<Vec<
 }
 
 // What the view of the listener of that number shows, if it has one.
-pub(crate) fn shown(held: &[Held], number: u64) -> Result<Option<Shown>, ShownError>
+pub(crate) fn shown(held: &[BoxedListener], number: u64) -> Result<Option<Shown>, ShownError>
     requires { AreHeld held.now }
     ensures shown { IfOk result (λ shown. shown
         ≡ option_and_then (λ l. shown_in l.view) (find (λ l. l.number == number) held.now)) }

@@ -10,8 +10,8 @@ use Rattle.tungstenite.specs.declared.error.Error.TheVariants as error
 use Rattle.rt_emulate.specs.declared.socket.Broken.{Broken}
 use Rattle.rt_emulate.specs.declared.socket.Broken.TheVariants.{Stream, Protocol, Utf8, Capacity, Closed, Used}
 use Rattle.rt_emulate.specs.declared.socket.Broken.TheVariants.{Full, Unshaken, Crowded, NoMemory}
-use Rattle.rt_emulate.specs.declared.ending.Ending.{Ending}
-use Rattle.rt_emulate.specs.declared.ending.Ending.TheVariants as ends
+use Rattle.rt_emulate.specs.declared.ending.GuestEnd.{GuestEnd}
+use Rattle.rt_emulate.specs.declared.ending.GuestEnd.TheVariants as ends
 
 -- ---- why a socket failed
 
@@ -78,7 +78,7 @@ broken_code Crowded = Some 1009
 broken_code b = None
 
 -- the server goes, the client has more listens than it may, or more waits for it or for all than may
-abbrev pub close_code : Ending → Option ℕ
+abbrev pub close_code : GuestEnd → Option ℕ
 close_code (ends.Failed why) = broken_code why
 close_code ends.Stopped = Some 1001
 close_code ends.TooManyListens = Some 1008
@@ -87,7 +87,7 @@ close_code ends.Crowding = Some 1013
 close_code e = None
 
 -- what the client is told behind the code
-abbrev pub close_reason : Ending → List ℕ
+abbrev pub close_reason : GuestEnd → List ℕ
 close_reason ends.TooManyListens = codes "more than 131072 listens"
 close_reason ends.Over = codes "too slow: more waits than may"
 close_reason ends.Crowding = codes "too slow: more than 134217728 bytes wait for all clients"
@@ -95,23 +95,23 @@ close_reason e = []
 
 -- ---- endings
 
-abbrev pub is_told : Ending → Bool
+abbrev pub is_told : GuestEnd → Bool
 is_told ends.Refused = true
 is_told ends.Answered = true
 is_told e = false
 
 -- by the code of the client's close, where it has closed, and by why its socket failed otherwise
-abbrev pub ending_of : Option (Option ℕ) → Option Broken → Ending
+abbrev pub ending_of : Option (Option ℕ) → Option Broken → GuestEnd
 ending_of (Some code) why = ends.Closed code
 ending_of None (Some why) = ends.Failed why
 ending_of None None = ends.Failed Closed
 
 -- by whether a connection has more listens than it may, and whether more waits for it than may
-abbrev pub too_much : Bool → Bool → Option Ending
+abbrev pub too_much : Bool → Bool → Option GuestEnd
 too_much true is_over = Some ends.TooManyListens
 too_much false true = Some ends.Over
 too_much false false = None
 
 -- one whose stream has ended so, that has asked by plain HTTP or hasn't
-abbrev pub stream_ending : Bool → Broken → Ending
+abbrev pub stream_ending : Bool → Broken → GuestEnd
 stream_ending has_asked why = if has_asked then ends.Answered else ends.Failed why

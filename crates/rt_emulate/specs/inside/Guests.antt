@@ -15,8 +15,8 @@ use Rattle.rt_hub.specs.declared.turn.Turn.TheVariants as turn
 use Rattle.rt_emulate.specs.declared.requests.Asking.{Asking as Request}
 use Rattle.rt_emulate.specs.declared.emulator.Emulator.{Emulator}
 use Rattle.rt_emulate.specs.declared.emulator.TheConstants.{LINES_MS}
-use Rattle.rt_emulate.specs.declared.ending.Ending.{Ending}
-use Rattle.rt_emulate.specs.declared.ending.Ending.TheVariants.{Silent, Unshaken}
+use Rattle.rt_emulate.specs.declared.ending.GuestEnd.{GuestEnd}
+use Rattle.rt_emulate.specs.declared.ending.GuestEnd.TheVariants.{Silent, Unshaken}
 use Rattle.rt_emulate.specs.declared.guest.Guest.{Guest}
 use Rattle.rt_emulate.specs.declared.guest.Stage.{Stage}
 use Rattle.rt_emulate.specs.declared.guest.Stage.TheVariants.{Asking, Shaking, Open, Gone}
@@ -142,19 +142,19 @@ unblocked (Open talk) = Open (record talk { is_blocked = false })
 unblocked Gone = Gone
 
 -- when the alarm of a connection rings next, or that it goes
-abbrev pub next_of : Due → ℕ → Result ℕ Ending
+abbrev pub next_of : Due → ℕ → Result ℕ GuestEnd
 next_of End now = Err Silent
 next_of Ping now = Ok (later now SILENCE_MS)
 next_of (Later wait) now = Ok (later now wait)
 
 -- one that asks goes once it is waited for too long, and a guest that still shakes hands by an alarm goes
-abbrev pub rung_in : Stage → Silence → ℕ → Result ℕ Ending
+abbrev pub rung_in : Stage → Silence → ℕ → Result ℕ GuestEnd
 rung_in (Asking asking) s now = asking_rung asking now
 rung_in (Shaking shaking) s now = Err Unshaken
 rung_in (Open talk) s now = next_of (due_of s now) now
 rung_in Gone s now = Err Unshaken
 
-abbrev pub rung : Guest → ℕ → Result ℕ Ending
+abbrev pub rung : Guest → ℕ → Result ℕ GuestEnd
 rung g now = rung_in g.stage g.silence now
 
 -- one that is sent a ping is waited for
@@ -200,13 +200,13 @@ HandsAs more old new hub hub2 =
 
 -- to a connection that has more listens than it may, or for which more came than may wait, nothing is handed over, and it
 -- goes; nor to one whose stream takes nothing for now
-abbrev pub HandsTo : Talk → Option Ending → Bool → Option Ending → Option Hub → Option Hub → Type 0
+abbrev pub HandsTo : Talk → Option GuestEnd → Bool → Option GuestEnd → Option Hub → Option Hub → Type 0
 HandsTo t (Some due) is_blocked why hub hub2 = (why ≡ Some due) × (hub2 ≡ hub)
 HandsTo t None true why hub hub2 = (why ≡ None) × (hub2 ≡ hub)
 HandsTo t None false why hub hub2 =
     (why ≡ None) × ((handed : Handed) × (flushed : Flushed) × Hands handed t.connection None None flushed hub hub2)
 
-abbrev pub HandsAt : Option Talk → Option Ending → Option Hub → Option Hub → Type 0
+abbrev pub HandsAt : Option Talk → Option GuestEnd → Option Hub → Option Hub → Type 0
 HandsAt None why hub hub2 = (why ≡ None) × (hub2 ≡ hub)
 HandsAt (Some t) why hub hub2 =
     HandsTo t

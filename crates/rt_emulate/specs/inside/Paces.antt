@@ -1,7 +1,7 @@
 -- How long one that asks is waited for.
 use Rattle.std.specs.Prelude.{ℕ, ◌-◌, ◌==◌, min, Bool, if◌then◌else◌, Option, Some, None}
-use Rattle.rt_emulate.specs.declared.ending.Ending.{Ending}
-use Rattle.rt_emulate.specs.declared.ending.Ending.TheVariants.{Answered, Stalled, Unshaken}
+use Rattle.rt_emulate.specs.declared.ending.GuestEnd.{GuestEnd}
+use Rattle.rt_emulate.specs.declared.ending.GuestEnd.TheVariants.{Answered, Stalled, Unshaken}
 use Rattle.rt_emulate.specs.declared.requests.Awaited.{Awaited}
 use Rattle.rt_emulate.specs.declared.requests.Awaited.TheVariants.{Request, Taking, Next, Leaving}
 use Rattle.rt_emulate.specs.declared.requests.TheConstants.{ANSWER_MS, ASK_MS}
@@ -19,7 +19,7 @@ left_of a waited =
     if most_of a - waited == 0 then None else Some (min (most_of a - waited) ASK_MS)
 
 -- why one goes that was waited for too long
-abbrev pub late_of : Awaited → Bool → Ending
+abbrev pub late_of : Awaited → Bool → GuestEnd
 late_of Request has_asked = if has_asked then Stalled else Unshaken
 late_of Taking has_asked = Stalled
 late_of Next has_asked = Answered

@@ -14,8 +14,8 @@ use Rattle.rt_emulate.specs.declared.requests.Next.{Next as Step}
 use Rattle.rt_emulate.specs.declared.requests.Next.TheVariants as step
 use Rattle.rt_emulate.specs.declared.requests.TheConstants.{DROPPED_BYTES}
 use Rattle.rt_emulate.specs.declared.socket.Broken.{Broken}
-use Rattle.rt_emulate.specs.declared.ending.Ending.{Ending}
-use Rattle.rt_emulate.specs.declared.ending.Ending.TheVariants.{Answered, Failed, Stopped}
+use Rattle.rt_emulate.specs.declared.ending.GuestEnd.{GuestEnd}
+use Rattle.rt_emulate.specs.declared.ending.GuestEnd.TheVariants.{Answered, Failed, Stopped}
 use Rattle.rt_emulate.specs.declared.requests.Awaited.{Awaited}
 use Rattle.rt_emulate.specs.declared.requests.Awaited.TheVariants.{Request, Taking, Next, Leaving}
 use Rattle.rt_emulate.specs.inside.Endings.{is_interrupted, stream_ending, would_block}
@@ -30,13 +30,13 @@ awaited_of a =
     else (if a.has_asked && is_between a.incoming then Next else Request))
 
 -- when its alarm rings next, or why it goes
-abbrev pub rung : Asking → ℕ → Result ℕ Ending
+abbrev pub rung : Asking → ℕ → Result ℕ GuestEnd
 rung a now =
     option_map_or (λ left. Ok (min (now + left) (2 ^ 64 - 1))) (left_of (awaited_of a) (now - a.since))
     (Err (late_of (awaited_of a) a.has_asked))
 
 -- why it goes where all are ended: one that was answered goes in silence
-abbrev pub stopped_of : Asking → Ending
+abbrev pub stopped_of : Asking → GuestEnd
 stopped_of a = if a.has_asked then Answered else Stopped
 
 -- ---- what is next

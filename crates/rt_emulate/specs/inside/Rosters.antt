@@ -14,8 +14,8 @@ use Rattle.rt_emulate.specs.Clients.{Client, bounded, client_text, comma}
 use Rattle.rt_emulate.specs.declared.requests.Asking.{Asking as Request}
 use Rattle.rt_emulate.specs.declared.guest.Guest.{Guest}
 use Rattle.rt_emulate.specs.declared.guest.Talk.{Talk}
-use Rattle.rt_emulate.specs.declared.guest.Told.{Told}
-use Rattle.rt_emulate.specs.declared.guest.Told.TheVariants as Says
+use Rattle.rt_emulate.specs.declared.guest.TextSent.{TextSent}
+use Rattle.rt_emulate.specs.declared.guest.TextSent.TheVariants as Says
 use Rattle.rt_emulate.specs.declared.present.Present.{Present}
 use Rattle.rt_emulate.specs.declared.roster.Roster.{Roster}
 use Rattle.rt_emulate.specs.declared.visit.Visit.{Visit}
@@ -139,14 +139,14 @@ abbrev pub is_told_now : ℕ → Talk → Bool
 is_told_now version t = is_owed version t && (not t.is_blocked && t.socket.unsent == 0)
 
 -- the text is put into its socket; nobody else is told, and nobody twice
-abbrev pub TellsIf : Bool → List ℕ → ℕ → Talk → Told → Talk → Type 0
+abbrev pub TellsIf : Bool → List ℕ → ℕ → Talk → TextSent → Talk → Type 0
 TellsIf false text version old said new = (said ≡ Says.Nothing) × (new ≡ old)
 TellsIf true text version old said new =
     (said ≢ Says.Nothing) × (new ≡ record old { socket = new.socket; told = Some version })
     × (new.socket.unsent ≡ unsent_with text old.socket.unsent)
     × (said ≡ Says.Text → PutsText (Text text) old.socket.socket new.socket.socket)
 
-abbrev pub Tells : List ℕ → ℕ → Talk → Told → Talk → Type 0
+abbrev pub Tells : List ℕ → ℕ → Talk → TextSent → Talk → Type 0
 Tells text version old said new = TellsIf (is_told_now version old) text version old said new
 
 -- where somebody asks and something may have changed, the text is made anew, but for want of memory, and those that ask

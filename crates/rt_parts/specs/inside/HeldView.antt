@@ -15,7 +15,7 @@ use Rattle.rt_view.specs.Views.{View, first_view, renewed, shown_of}
 use Rattle.rt_world.specs.declared.report.Note.{Note}
 use Rattle.rt_world.specs.Met.{renewed_met, told_met}
 use Rattle.rt_world.specs.World.{Listener, Reason}
-use Rattle.rt_parts.specs.declared.listeners.Held.{Held}
+use Rattle.rt_parts.specs.declared.listeners.HeldListener.{HeldListener}
 use Rattle.rt_parts.specs.Listeners.{cancelled_note, Listeners}
 use Rattle.rt_parts.specs.Refreshed.{count_met, is_supplied_at, renewed_heard, view_heard, view_met}
 use Rattle.rt_parts.specs.Renewed.{count_of, renewed_of, told_of, view_of}
@@ -25,7 +25,7 @@ abbrev pub shown_in : Option View → Option Shown
 shown_in view = option_map shown_of view
 
 -- the listener; primed where it has a view
-abbrev pub listener_of : Held → Listener
+abbrev pub listener_of : HeldListener → Listener
 listener_of l = record {
   number = l.number;
   seat = l.seat;
@@ -35,24 +35,24 @@ listener_of l = record {
 }
 
 -- all of them
-abbrev pub listeners_of : List Held → List Listener
+abbrev pub listeners_of : List HeldListener → List Listener
 listeners_of held = map listener_of held
 
 -- the views that they hold
-abbrev pub views_of : List Held → List (Option View)
+abbrev pub views_of : List HeldListener → List (Option View)
 views_of held = map (λ h. h.view) held
 
 -- and how many children were taken anew for each
-abbrev pub counts_of : List Held → List ℕ
+abbrev pub counts_of : List HeldListener → List ℕ
 counts_of held = map (λ h. h.count) held
 
 -- the listeners with their views, and the counts
-abbrev pub all_of : List Held → Listeners
+abbrev pub all_of : List HeldListener → Listeners
 all_of held =
     record { listeners = listeners_of held; views = views_of held; counts = counts_of held }
 
 -- a listener with its view
-abbrev pub pair_of : Held → Listener × Option View
+abbrev pub pair_of : HeldListener → Listener × Option View
 pair_of l = (listener_of l, l.view)
 
 -- both after entries
@@ -67,7 +67,7 @@ refreshed_at number entries b writes p =
     if p.0.number == number then refreshed entries b writes p else p
 
 -- a listener with its view and its count
-abbrev pub counted_of : Held → (Listener × Option View) × ℕ
+abbrev pub counted_of : HeldListener → (Listener × Option View) × ℕ
 counted_of l = (pair_of l, l.count)
 
 -- the three after entries
@@ -146,25 +146,25 @@ view_over q t None = first_view q t
 view_over q t (Some v) = renewed v t
 
 -- a listener's number with its view, if it passes
-abbrev pub own_view : (Listener → Bool) → Held → Option (ℕ × Option View)
+abbrev pub own_view : (Listener → Bool) → HeldListener → Option (ℕ × Option View)
 own_view test l = if test (listener_of l) then Some (l.number, l.view) else None
 
 -- the views of the listeners that pass
-abbrev pub own_views : (Listener → Bool) → List Held → List (ℕ × Option View)
+abbrev pub own_views : (Listener → Bool) → List HeldListener → List (ℕ × Option View)
 own_views test held = filter_map (own_view test) held
 
 -- the listener's number, if it is the seat's
-abbrev pub own_number : ℕ → Held → Option ℕ
+abbrev pub own_number : ℕ → HeldListener → Option ℕ
 own_number seat l = if l.seat == seat then Some l.number else None
 
 -- the numbers are those of the listeners of the form, and others perhaps, which no listener has
-abbrev pub HaveForm : Query → List ℕ → List Held → Type 0
+abbrev pub HaveForm : Query → List ℕ → List HeldListener → Type 0
 HaveForm listened numbers held =
     All (λ l. list_any (λ n. l.number == n) numbers ≡ query_eq (form l.query) listened) held
 
 -- the numbers are those of the listeners of the range's path that it supplies, and others perhaps, which no
 -- listener has
-abbrev pub HaveSupplied : Query → List ℕ → List Held → Type 0
+abbrev pub HaveSupplied : Query → List ℕ → List HeldListener → Type 0
 HaveSupplied range numbers held =
     All (λ l. list_any (λ n. l.number == n) numbers ≡ is_supplied_at range l.query) held
 
@@ -183,10 +183,10 @@ IsViewOf q None = Unit {0}
 IsViewOf q (Some v) = (v.query ≡ q) × (v.failed ≡ false)
 
 -- the view is the listener's
-pub record IsHeld (l : Held) : Type 0 where
+pub record IsHeld (l : HeldListener) : Type 0 where
   pub view : IsViewOf l.query l.view
 
 -- the numbers rise, and each is held so
-pub record AreHeld (held : List Held) : Type 0 where
+pub record AreHeld (held : List HeldListener) : Type 0 where
   pub rising : AllPairs (λ l m. l.number < m.number) held
   pub each : All IsHeld held

@@ -13,8 +13,8 @@ use Rattle.rt_view.specs.Views.{View}
 use Rattle.rt_world.specs.Touched.{named_by}
 use Rattle.rt_world.specs.World.{Listener}
 use Rattle.rt_query.specs.Queries.{Query}
-use Rattle.rt_parts.specs.declared.listeners.Held.{Held}
-use Rattle.rt_parts.specs.declared.places.Place.{Place}
+use Rattle.rt_parts.specs.declared.listeners.HeldListener.{HeldListener}
+use Rattle.rt_parts.specs.declared.places.ListenerPlace.{ListenerPlace}
 use Rattle.rt_parts.specs.Refreshed.{FollowsNamed, hears}
 
 -- by number, and of one number by the entry
@@ -36,7 +36,7 @@ HasPairs entries pairs number path =
     → list_any (λ o. number == o.0 && i == o.1) pairs ≡ true
 
 -- so it is of each place
-abbrev pub HavePairs : List Assignment → List (ℕ × ℕ) → List Place → Type 0
+abbrev pub HavePairs : List Assignment → List (ℕ × ℕ) → List ListenerPlace → Type 0
 HavePairs entries pairs places = All (λ x. HasPairs entries pairs x.number x.path) places
 
 -- each entry that sits at, above or below the path is among the own ones
@@ -63,10 +63,10 @@ HaveAll count numbers pairs =
 
 -- the pairs of entries with the listeners that they are handed to, in order: those that hear of the entries
 pub record AreHanded (range : Option Query) (entries : List Assignment) (pairs : List (ℕ × ℕ))
-    (held : List Held) : Type 0 where
+    (held : List HeldListener) : Type 0 where
   pub up : AreUp pairs
   pub all :
-      All (λ (l : Held). hears range l.query ≡ true
+      All (λ (l : HeldListener). hears range l.query ≡ true
       → HasPairs entries pairs l.number l.query.path) held
   pub only :
-      All (λ (l : Held). list_any (λ o. l.number == o.0) pairs ≡ true → hears range l.query ≡ true) held
+      All (λ (l : HeldListener). list_any (λ o. l.number == o.0) pairs ≡ true → hears range l.query ≡ true) held

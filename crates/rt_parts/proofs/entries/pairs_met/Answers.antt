@@ -1,7 +1,7 @@
 use Rattle.std.proofs.Common.{◌≡◌, ◌&&◌, ◌<◌, ◌≤◌, ℕ, List, length, get_or, rules, sym, ap, subst, ◌∙◌}
 use Rattle.std.specs.Prelude.{◌==◌}
 use Rattle.rt_tree.specs.Assignments.{Assignment}
-use Rattle.rt_parts.specs.declared.places.Place.{Place}
+use Rattle.rt_parts.specs.declared.places.ListenerPlace.{ListenerPlace}
 use Rattle.rt_parts.specs.inside.Pairs.{HavePairs}
 use Rattle.rt_parts.proofs.PairLaws.{pairs_more, pairs_none}
 use Rattle.rt_parts.proofs.PlaceLaws.{get_or_any}
@@ -25,6 +25,6 @@ pub returns-clause-all : goal.returns-clause-all
 returns-clause-all c =
     let done : length c.args.entries.now ≤ c.loop-at.at = search rules in
     λ k d lt i a within e.
-    let x : Place = get_or c.args.places.now k d in
+    let x : ListenerPlace = get_or c.args.places.now k d in
     c.sort_pairs.ensures.same (λ (o : ℕ × ℕ). x.number == o.0 && i == o.1)
     ∙ subst (λ (es : List Assignment). HavePairs es c.loop-at.pairs.items c.args.places.now) (taken_all c.loop-at.at c.args.entries.now done) c.loop-at.invariant k d lt i a within e

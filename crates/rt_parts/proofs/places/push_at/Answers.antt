@@ -5,7 +5,7 @@ use Rattle.std.specs.List.Sorted.{IsPartitionedBy, IsPartitionPoint}
 use Rattle.std.specs.Ordering.{is_le}
 use Rattle.std.proofs.lemmas.List.Sorted.{IsPartitionPoint-from_clause}
 use Rattle.rt_tree.specs.PathTree.{Path, path_cmp, paths_total}
-use Rattle.rt_parts.specs.declared.places.Place.{Place}
+use Rattle.rt_parts.specs.declared.places.ListenerPlace.{ListenerPlace}
 use Rattle.rt_parts.specs.inside.Placed.{stand_of}
 use Rattle.rt_parts.proofs.PlaceLaws.{at_not_before, found_in, not_behind_same, paths_first, up_drop}
 use Rattle.rt_parts.proofs.PushLaws.{has_found, keeps_append, on_ok, rest_is}
@@ -16,16 +16,16 @@ returns-clause-kept c = on_ok c.push_numbers.result c.push_numbers.ensures (λ e
 
 pub returns-clause-all : goal.returns-clause-all
 returns-clause-all c =
-    let ls : List Place = c.args.places.now in
+    let ls : List ListenerPlace = c.args.places.now in
     let p : Path = c.args.path.now in
     let first : ℕ = c.first_from-first.result in
     let count : ℕ = c.partition_point-count.result in
-    let rest : List Place = take (length ls - first) (drop first ls) in
-    let parted : IsPartitionedBy (λ (x : Place). is_le (path_cmp x.path p)) rest =
-    subst (IsPartitionedBy (λ (x : Place). is_le (path_cmp x.path p))) (sym (rest_is ls first)) (paths_first path_cmp paths_total stand_of p (drop first ls) (up_drop path_cmp paths_total stand_of first ls c.requires)) in
-    let point : IsPartitionPoint (λ (x : Place). is_le (path_cmp x.path p) ≡ true) (λ (x : Place). is_le (path_cmp x.path p) ≡ false) rest count =
-    IsPartitionPoint-from_clause (λ (x : Place). is_le (path_cmp x.path p)) rest count c.partition_point-count.ensures.partitioned parted (λ a r f' k. search rules) in
+    let rest : List ListenerPlace = take (length ls - first) (drop first ls) in
+    let parted : IsPartitionedBy (λ (x : ListenerPlace). is_le (path_cmp x.path p)) rest =
+    subst (IsPartitionedBy (λ (x : ListenerPlace). is_le (path_cmp x.path p))) (sym (rest_is ls first)) (paths_first path_cmp paths_total stand_of p (drop first ls) (up_drop path_cmp paths_total stand_of first ls c.requires)) in
+    let point : IsPartitionPoint (λ (x : ListenerPlace). is_le (path_cmp x.path p) ≡ true) (λ (x : ListenerPlace). is_le (path_cmp x.path p) ≡ false) rest count =
+    IsPartitionPoint-from_clause (λ (x : ListenerPlace). is_le (path_cmp x.path p)) rest count c.partition_point-count.ensures.partitioned parted (λ a r f' k. search rules) in
     on_ok c.push_numbers.result c.push_numbers.ensures (λ e. λ k d lt t.
-    let found = found_in path_cmp paths_total stand_of (λ (x : Place). is_le (path_cmp x.path p)) (p, 0) ls rest first count (rest_is ls first) c.first_from-first.ensures.within c.partition_point-count.ensures.bound
+    let found = found_in path_cmp paths_total stand_of (λ (x : ListenerPlace). is_le (path_cmp x.path p)) (p, 0) ls rest first count (rest_is ls first) c.first_from-first.ensures.within c.partition_point-count.ensures.bound
     c.first_from-first.ensures.point point k d lt (at_not_before path_cmp paths_total stand_of p (get_or ls k d) t) (not_behind_same path_cmp paths_total stand_of p (get_or ls k d) t) in
     ap (list_any (λ n. (get_or ls k d).number == n)) e ∙ has_found c.args.numbers.now.items (take count rest) (get_or ls k d) found.0 d found.1 found.2)

@@ -1,6 +1,6 @@
 use Rattle.std.proofs.Common.{◌<◌, ◌≤◌, ◌==◌, ℕ, List, length, not, rules, ap, ◌∙◌}
 use Rattle.std.specs.List.{filter, list_any}
-use Rattle.rt_parts.specs.declared.listeners.Held.{Held}
+use Rattle.rt_parts.specs.declared.listeners.HeldListener.{HeldListener}
 use Rattle.rt_parts.proofs.EndingLaws.{left_more, left_none}
 use Rattle.rt_parts.proofs.PushLaws.{taken_all}
 use Rattle.rt_parts.proofs.renewal.end_each.Goals as goal
@@ -26,4 +26,4 @@ pub returns-clause-left : goal.returns-clause-left
 returns-clause-left c =
     let past : length c.args.numbers.now ≤ c.loop-number.number-index = search rules in
     c.loop-number.invariant.left
-    ∙ ap (λ (ns : List ℕ). filter (λ (h : Held). not (list_any (λ n. h.number == n) ns)) c.args.held.now.items) (taken_all c.loop-number.number-index c.args.numbers.now past)
+    ∙ ap (λ (ns : List ℕ). filter (λ (h : HeldListener). not (list_any (λ n. h.number == n) ns)) c.args.held.now.items) (taken_all c.loop-number.number-index c.args.numbers.now past)

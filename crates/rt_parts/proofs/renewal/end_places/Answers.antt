@@ -4,11 +4,11 @@ use Rattle.std.proofs.lemmas.Fn.{filter_same}
 use Rattle.rt_tree.specs.PathTree.{path_eq}
 use Rattle.rt_query.specs.QueryEq.{query_eq}
 use Rattle.rt_query.specs.Supply.{form}
-use Rattle.rt_parts.specs.declared.listeners.Held.{Held}
-use Rattle.rt_parts.specs.declared.places.Place.{Place}
+use Rattle.rt_parts.specs.declared.listeners.HeldListener.{HeldListener}
+use Rattle.rt_parts.specs.declared.places.ListenerPlace.{ListenerPlace}
 use Rattle.rt_parts.proofs.renewal.end_places.Goals as goal
 
 pub returns : goal.returns
 returns c =
-    filter_same _ (λ (x : Place). not (path_eq x.path c.args.listened.now.path && list_any (λ (l : Held). l.number == x.number && query_eq (form l.query) c.args.listened.now) c.args.listeners.now)) _
+    filter_same _ (λ (x : ListenerPlace). not (path_eq x.path c.args.listened.now.path && list_any (λ (l : HeldListener). l.number == x.number && query_eq (form l.query) c.args.listened.now) c.args.listeners.now)) _
     (λ x b f' k. search rules) _ _ c.retain.ensures.filtered

@@ -3,7 +3,7 @@ use Rattle.std.specs.Prelude.{◌==◌}
 use Rattle.std.specs.List.{list_any}
 use Rattle.rt_tree.specs.PathTree.{path_eq}
 use Rattle.rt_query.specs.Queries.{Query}
-use Rattle.rt_parts.specs.declared.places.Place.{Place}
+use Rattle.rt_parts.specs.declared.places.ListenerPlace.{ListenerPlace}
 use Rattle.rt_parts.proofs.PushLaws.{taken_all}
 use Rattle.rt_parts.proofs.RenewLaws.{none_at}
 use Rattle.rt_parts.proofs.renewal.numbers_at.Goals as goal
@@ -15,6 +15,6 @@ pub returns-clause-all : goal.returns-clause-all
 returns-clause-all c =
     let done : length c.args.queries.now ≤ c.loop-at.at = search rules in
     λ k d lt e.
-    let x : Place = get_or c.args.places.now k d in
+    let x : ListenerPlace = get_or c.args.places.now k d in
     c.sort_once.ensures.same (λ n. x.number == n)
     ∙ c.loop-at.invariant k d lt (ap (λ (qs : List Query). list_any (λ (q : Query). path_eq q.path x.path) qs) (taken_all c.loop-at.at c.args.queries.now done) ∙ e)

@@ -1,14 +1,14 @@
 use Rattle.std.proofs.Common.{◌≡◌, ◌<◌, suc, List, length, take, rules, ap, sym, ◌∙◌, add-one, ◌++◌}
 use Rattle.std.specs.List.{filter_map}
 use Rattle.std.specs.Option.{option_to_list}
-use Rattle.rt_parts.specs.declared.listeners.Held.{Held}
+use Rattle.rt_parts.specs.declared.listeners.HeldListener.{HeldListener}
 use Rattle.rt_parts.specs.inside.HeldView.{own_number}
 use Rattle.rt_parts.proofs.Loops.{gather_more}
 use Rattle.rt_parts.proofs.views.numbers_of.Goals as goal
 
 pub loop-listener-preserved : goal.loop-listener-preserved
 loop-listener-preserved c =
-    let xs : List Held = c.args.held.now in
+    let xs : List HeldListener = c.args.held.now in
     let i = c.loop-listener.listener-index in
     let within : i < length xs = search rules in
     let numbers : c.push_own.new.numbers.items ≡ filter_map (own_number c.args.seat) (take (suc i) xs) =

@@ -5,7 +5,7 @@ use Rattle.std.proofs.lemmas.List.Quantifiers.{position-Some}
 use Rattle.std.proofs.lemmas.List.{get_or-map, length-map}
 use Rattle.rt_world.specs.declared.report.Note.{Note}
 use Rattle.rt_world.specs.Met.{do_meet}
-use Rattle.rt_parts.specs.declared.listeners.Held.{Held}
+use Rattle.rt_parts.specs.declared.listeners.HeldListener.{HeldListener}
 use Rattle.rt_parts.specs.inside.HeldView.{IsHeld, counted_of, pair_of, recounted, refreshed}
 use Rattle.rt_parts.specs.Refreshed.{FollowsNamed}
 use Rattle.rt_parts.specs.inside.Pairs.{HasPairs}
@@ -19,11 +19,11 @@ use Rattle.rt_parts.proofs.views.refresh_number.Goals as goal
 
 pub refresh_one-requires-clause-follow : goal.refresh_one-requires-clause-follow
 refresh_one-requires-clause-follow c =
-    let ls : List Held = c.args.listeners.now in
+    let ls : List HeldListener = c.args.listeners.now in
     let i : ℕ = c.in-Some.at in
-    let d : Held = c.index-listeners-at.result in
-    let found : position (λ (l : Held). l.number == c.args.number) ls ≡ Some i = search rules in
-    let at = position-Some (λ (l : Held). l.number == c.args.number) ls i d found in
+    let d : HeldListener = c.index-listeners-at.result in
+    let found : position (λ (l : HeldListener). l.number == c.args.number) ls ≡ Some i = search rules in
+    let at = position-Some (λ (l : HeldListener). l.number == c.args.number) ls i d found in
     let read : get_or (map pair_of ls) i (pair_of d) ≡ pair_of (get_or ls i d) = get_or-map pair_of ls i d (pair_of d) at.0 in
     let within : i < length (map pair_of ls) = omega (arith, at.0, length-map ls pair_of) in
     subst (FollowsNamed c.args.entries.now c.args.brought.now c.args.pending.now) read
@@ -31,11 +31,11 @@ refresh_one-requires-clause-follow c =
 
 pub refresh_one-requires-clause-own : goal.refresh_one-requires-clause-own
 refresh_one-requires-clause-own c =
-    let ls : List Held = c.args.listeners.now in
+    let ls : List HeldListener = c.args.listeners.now in
     let i : ℕ = c.in-Some.at in
-    let d : Held = c.index-listeners-at.result in
-    let found : position (λ (l : Held). l.number == c.args.number) ls ≡ Some i = search rules in
-    let at = position-Some (λ (l : Held). l.number == c.args.number) ls i d found in
+    let d : HeldListener = c.index-listeners-at.result in
+    let found : position (λ (l : HeldListener). l.number == c.args.number) ls ≡ Some i = search rules in
+    let at = position-Some (λ (l : HeldListener). l.number == c.args.number) ls i d found in
     let read : get_or (map pair_of ls) i (pair_of d) ≡ pair_of (get_or ls i d) = get_or-map pair_of ls i d (pair_of d) at.0 in
     let within : i < length (map pair_of ls) = omega (arith, at.0, length-map ls pair_of) in
     let has : HasPairs c.args.entries.now c.args.met.now (get_or ls i d).number (get_or ls i d).query.path =
@@ -45,62 +45,62 @@ refresh_one-requires-clause-own c =
 
 pub returns-in-Some-clause-pairs : goal.returns-in-Some-clause-pairs
 returns-in-Some-clause-pairs c =
-    let ls : List Held = c.args.listeners.now in
+    let ls : List HeldListener = c.args.listeners.now in
     let i : ℕ = c.in-Some.at in
-    let d : Held = c.index-listeners-at.result in
-    let found : position (λ (l : Held). l.number == c.args.number) ls ≡ Some i = search rules in
-    let at = position-Some (λ (l : Held). l.number == c.args.number) ls i d found in
+    let d : HeldListener = c.index-listeners-at.result in
+    let found : position (λ (l : HeldListener). l.number == c.args.number) ls ≡ Some i = search rules in
+    let at = position-Some (λ (l : HeldListener). l.number == c.args.number) ls i d found in
     on_ok c.refresh_one.result c.refresh_one.ensures.pair (λ e.
     changed_one number_of (refreshed c.args.entries.now c.args.brought.now c.args.pending.now) (told_of c.args.entries.now c.args.brought.now c.args.pending.now) pair_of c.args.number ls i d c.refresh_one.new.listener at.0 at.1
-    (only_there (λ (l : Held). l.number) ls c.args.number i c.requires.held.rising found) e)
+    (only_there (λ (l : HeldListener). l.number) ls c.args.number i c.requires.held.rising found) e)
 
 pub returns-in-Some-clause-held : goal.returns-in-Some-clause-held
 returns-in-Some-clause-held c =
-    let ls : List Held = c.args.listeners.now in
+    let ls : List HeldListener = c.args.listeners.now in
     let i : ℕ = c.in-Some.at in
-    let d : Held = c.index-listeners-at.result in
+    let d : HeldListener = c.index-listeners-at.result in
     on_ok c.refresh_one.result c.refresh_one.ensures.held (λ e. record {
-      rising = rising_same (λ (h : Held). h.number) ls (set ls i c.refresh_one.new.listener) (map-set_same (λ (h : Held). h.number) ls i c.refresh_one.new.listener d c.refresh_one.ensures.number) c.requires.held.rising;
+      rising = rising_same (λ (h : HeldListener). h.number) ls (set ls i c.refresh_one.new.listener) (map-set_same (λ (h : HeldListener). h.number) ls i c.refresh_one.new.listener d c.refresh_one.ensures.number) c.requires.held.rising;
       each = all_set IsHeld ls i c.refresh_one.new.listener c.requires.held.each e;
     })
 
 pub returns-in-Some-clause-notes : goal.returns-in-Some-clause-notes
 returns-in-Some-clause-notes c =
-    let ls : List Held = c.args.listeners.now in
+    let ls : List HeldListener = c.args.listeners.now in
     let i : ℕ = c.in-Some.at in
-    let d : Held = c.index-listeners-at.result in
-    let found : position (λ (l : Held). l.number == c.args.number) ls ≡ Some i = search rules in
-    let at = position-Some (λ (l : Held). l.number == c.args.number) ls i d found in
+    let d : HeldListener = c.index-listeners-at.result in
+    let found : position (λ (l : HeldListener). l.number == c.args.number) ls ≡ Some i = search rules in
+    let at = position-Some (λ (l : HeldListener). l.number == c.args.number) ls i d found in
     on_ok c.refresh_one.result c.refresh_one.ensures.notes (λ e. e ∙ ap (λ (z : List Note). c.args.notes.now.items ++ z)
     (sym (told_one number_of (refreshed c.args.entries.now c.args.brought.now c.args.pending.now) (told_of c.args.entries.now c.args.brought.now c.args.pending.now) pair_of c.args.number ls i d at.0 at.1
-    (only_there (λ (l : Held). l.number) ls c.args.number i c.requires.held.rising found))))
+    (only_there (λ (l : HeldListener). l.number) ls c.args.number i c.requires.held.rising found))))
 
 pub returns-in-None-clause-pairs : goal.returns-in-None-clause-pairs
 returns-in-None-clause-pairs c =
-    let none : position (λ (l : Held). l.number == c.args.number) c.args.listeners.now ≡ None = search rules in
+    let none : position (λ (l : HeldListener). l.number == c.args.number) c.args.listeners.now ≡ None = search rules in
     sym (stay_none number_of (refreshed c.args.entries.now c.args.brought.now c.args.pending.now) (told_of c.args.entries.now c.args.brought.now c.args.pending.now) c.args.number (map pair_of c.args.listeners.now) (none_there c.args.number c.args.listeners.now none))
 
 pub returns-in-None-clause-notes : goal.returns-in-None-clause-notes
 returns-in-None-clause-notes c =
-    let none : position (λ (l : Held). l.number == c.args.number) c.args.listeners.now ≡ None = search rules in
+    let none : position (λ (l : HeldListener). l.number == c.args.number) c.args.listeners.now ≡ None = search rules in
     sym (ap (λ (z : List Note). c.args.notes.now.items ++ z)
     (told_none number_of (refreshed c.args.entries.now c.args.brought.now c.args.pending.now) (told_of c.args.entries.now c.args.brought.now c.args.pending.now) c.args.number (map pair_of c.args.listeners.now) (none_there c.args.number c.args.listeners.now none))
     ∙ append-nil c.args.notes.now.items)
 
 pub returns-in-Some-clause-counts : goal.returns-in-Some-clause-counts
 returns-in-Some-clause-counts c =
-    let ls : List Held = c.args.listeners.now in
+    let ls : List HeldListener = c.args.listeners.now in
     let i : ℕ = c.in-Some.at in
-    let d : Held = c.index-listeners-at.result in
-    let found : position (λ (l : Held). l.number == c.args.number) ls ≡ Some i = search rules in
-    let at = position-Some (λ (l : Held). l.number == c.args.number) ls i d found in
+    let d : HeldListener = c.index-listeners-at.result in
+    let found : position (λ (l : HeldListener). l.number == c.args.number) ls ≡ Some i = search rules in
+    let at = position-Some (λ (l : HeldListener). l.number == c.args.number) ls i d found in
     on_both c.refresh_one.result c.refresh_one.ensures.pair c.refresh_one.ensures.count (λ e n.
     changed_one counted_number (recounted c.args.entries.now c.args.brought.now c.args.pending.now) untold counted_of c.args.number ls i d c.refresh_one.new.listener at.0 at.1
-    (only_there (λ (l : Held). l.number) ls c.args.number i c.requires.held.rising found)
+    (only_there (λ (l : HeldListener). l.number) ls c.args.number i c.requires.held.rising found)
     (changed_count (refreshed c.args.entries.now c.args.brought.now c.args.pending.now) (do_meet c.args.entries.now (get_or ls i d).query.path) (get_or ls i d) c.refresh_one.new.listener e n))
 
 pub returns-in-None-clause-counts : goal.returns-in-None-clause-counts
 returns-in-None-clause-counts c =
-    let none : position (λ (l : Held). l.number == c.args.number) c.args.listeners.now ≡ None = search rules in
+    let none : position (λ (l : HeldListener). l.number == c.args.number) c.args.listeners.now ≡ None = search rules in
     sym (stay_none counted_number (recounted c.args.entries.now c.args.brought.now c.args.pending.now) untold c.args.number (map counted_of c.args.listeners.now)
     (none_counted c.args.number c.args.listeners.now (none_there c.args.number c.args.listeners.now none)))

@@ -1,7 +1,7 @@
 use Rattle.std.proofs.Common.{◌≡◌, ◌++◌, true, false, OnOk, sym, ap, subst, ◌∙◌, rules}
 use Rattle.std.specs.Option.{option_map_or, option_to_list}
 use Rattle.rt_view.specs.Views.{View, stays_object}
-use Rattle.rt_parts.specs.declared.listeners.Held.{Held}
+use Rattle.rt_parts.specs.declared.listeners.HeldListener.{HeldListener}
 use Rattle.rt_parts.specs.Listeners.{count_with}
 use Rattle.rt_parts.proofs.PushLaws.{on_ok}
 use Rattle.rt_parts.proofs.ViewLaws.{anew_after, touched_after, touched_renewed, touched_told}
@@ -30,7 +30,7 @@ returns-clause-taken c =
     let stays : option_map_or (λ (v : View). stays_object v.tree c.in_ok-named.named.items) c.args.listener.now.view false ≡ true =
     ap (λ n. option_map_or (λ (v : View). stays_object v.tree n) c.args.listener.now.view false) (sym same) ∙ sym c.stays_object.ensures ∙ search rules in
     on_ok c.tell.result c.tell.ensures (λ e.
-    ap (λ (h : Held). h.view) c.in_ok-changes.ensures.listener
+    ap (λ (h : HeldListener). h.view) c.in_ok-changes.ensures.listener
     ∙ touched_after c.args.brought.now c.args.pending.now c.args.entries.now c.args.listener.now c.in_ok-named.named.items c.in_ok-named.ensures.children c.requires.low c.args.listener.now.view stays)
 
 pub returns-clause-notes : goal.returns-clause-notes
@@ -48,4 +48,4 @@ named_children-requires c = c.requires.own
 pub returns-clause-count : goal.returns-clause-count
 returns-clause-count c =
     let is = c.in_ok-changes.ensures.listener in
-    on_ok c.tell.result c.tell.ensures (λ e. ap (λ (h : Held). h.count) is ∙ ap (λ (h : Held). count_with c.args.listener.now.count h.view) (sym is))
+    on_ok c.tell.result c.tell.ensures (λ e. ap (λ (h : HeldListener). h.count) is ∙ ap (λ (h : HeldListener). count_with c.args.listener.now.count h.view) (sym is))

@@ -2,7 +2,7 @@ use Rattle.std.proofs.Common.{◌≡◌, ◌<◌, ◌||◌, ◌++◌, [], ◌∷
 use Rattle.std.specs.List.{All, list_any}
 use Rattle.std.specs.Ordering.{is_eq}
 use Rattle.rt_world.specs.World.{Listener}
-use Rattle.rt_parts.specs.declared.places.Place.{Place}
+use Rattle.rt_parts.specs.declared.places.ListenerPlace.{ListenerPlace}
 use Rattle.rt_parts.specs.Listeners.{Listeners, new_listener}
 use Rattle.rt_parts.specs.inside.HeldView.{AreHeld, counts_of}
 use Rattle.rt_parts.specs.inside.Placed.{IsIndex, placed, stand_cmp, stand_of}
@@ -15,7 +15,7 @@ use Rattle.rt_parts.proofs.listeners.Listeners.add.Goals as goal
 pub insert_place-requires-clause-free : goal.insert_place-requires-clause-free
 insert_place-requires-clause-free c =
     let items : c.reserve.new.self.items ≡ c.self.inside.places.items = search rules in
-    subst (λ ps. All (λ (x : Place). is_eq (stand_cmp (stand_of x) (c.in_ok-path.path, c.args.number)) ≡ false) ps) (sym items)
+    subst (λ ps. All (λ (x : ListenerPlace). is_eq (stand_cmp (stand_of x) (c.in_ok-path.path, c.args.number)) ≡ false) ps) (sym items)
     (free_above c.args.number c.in_ok-path.path c.self.inside.held.items c.self.inside.places.items c.self.invariant.1
     (all_below c.args.number c.self.inside.held.items (subst (λ all. All (λ (l : Listener). l.number < c.args.number) all.listeners) (sym c.self.view_is) c.requires.above)))
 

@@ -4,7 +4,7 @@ use Rattle.rt_query.specs.QueryEq.{query_eq}
 use Rattle.rt_query.specs.Supply.{form}
 use Rattle.rt_world.specs.World.{Listener}
 use Rattle.rt_parts.specs.Listeners.{cancelled_note, counts_left, views_left}
-use Rattle.rt_parts.specs.declared.listeners.Held.{Held}
+use Rattle.rt_parts.specs.declared.listeners.HeldListener.{HeldListener}
 use Rattle.rt_parts.specs.inside.HeldView.{counts_of, views_of, ended_among, HaveForm, listeners_of}
 use Rattle.rt_parts.specs.inside.Placed.{IsIndex}
 use Rattle.rt_parts.proofs.Counts.{counts_filter}
@@ -25,7 +25,7 @@ returns-clause-views c =
 pub returns-clause-notes : goal.returns-clause-notes
 returns-clause-notes c =
     let test : Listener → Bool = λ l. query_eq (form l.query) c.args.listened.now in
-    let held : List Held = c.self.inside.held.items in
+    let held : List HeldListener = c.self.inside.held.items in
     let numbers : List ℕ = c.in_ok-numbers.numbers.items in
     let seen : c.deref.result.now ≡ held = c.deref.ensures.value in
     let told : c.deref-3.result.now ≡ held = c.deref-3.ensures.value in
@@ -38,14 +38,14 @@ returns-clause-notes c =
     ∙ ap (λ all. map (cancelled_note c.args.why.now) (filter test all.listeners)) c.self.view_is)
 
 pub numbers_of_form-requires-clause-rising : goal.numbers_of_form-requires-clause-rising
-numbers_of_form-requires-clause-rising c = subst (AllPairs (λ (l m : Held). l.number < m.number)) (sym c.deref.ensures.value) c.self.invariant.0.rising
+numbers_of_form-requires-clause-rising c = subst (AllPairs (λ (l m : HeldListener). l.number < m.number)) (sym c.deref.ensures.value) c.self.invariant.0.rising
 
 pub numbers_of_form-requires-clause-index : goal.numbers_of_form-requires-clause-index
 numbers_of_form-requires-clause-index c =
     subst (λ hs. IsIndex hs c.deref-2.result.now) (sym c.deref.ensures.value) (subst (IsIndex c.self.inside.held.items) (sym c.deref-2.ensures.value) c.self.invariant.1)
 
 pub tell_ends-requires-clause-rising : goal.tell_ends-requires-clause-rising
-tell_ends-requires-clause-rising c = subst (AllPairs (λ (l m : Held). l.number < m.number)) (sym c.deref-3.ensures.value) c.self.invariant.0.rising
+tell_ends-requires-clause-rising c = subst (AllPairs (λ (l m : HeldListener). l.number < m.number)) (sym c.deref-3.ensures.value) c.self.invariant.0.rising
 
 pub end_listened-requires-clause-numbers : goal.end_listened-requires-clause-numbers
 end_listened-requires-clause-numbers c =

@@ -2,7 +2,7 @@ use Rattle.std.proofs.Common.{◌≡◌, ◌&&◌, ap, subst, ◌∙◌, rules, 
 use Rattle.std.specs.List.{list_any}
 use Rattle.rt_tree.specs.PathTree.{path_eq}
 use Rattle.rt_query.specs.Queries.{is_filtered}
-use Rattle.rt_parts.specs.declared.places.Place.{Place}
+use Rattle.rt_parts.specs.declared.places.ListenerPlace.{ListenerPlace}
 use Rattle.rt_parts.specs.inside.Placed.{HaveNumbers}
 use Rattle.rt_parts.specs.Listeners.{Listeners}
 use Rattle.rt_parts.specs.Renewed.{is_listened_at}
@@ -17,10 +17,10 @@ returns c =
     let numbers = c.push_at.new.numbers.items in
     let held : c.deref-2.result.now ≡ c.self.inside.held.items = search rules in
     let lent : c.deref-3.result.now ≡ numbers = search rules in
-    let all : HaveNumbers (λ (x : Place). path_eq x.path c.args.path.now) numbers c.self.inside.places.items =
-    subst (λ z. HaveNumbers (λ (x : Place). path_eq x.path z) numbers c.self.inside.places.items) keys
-    (subst (HaveNumbers (λ (x : Place). path_eq x.path c.keys.result.now) numbers) places c.in_ok-push_at.ensures.all) in
-    let due = have_due (λ (x : Place). path_eq x.path c.args.path.now) numbers c.self.inside.held.items c.self.inside.places.items c.self.invariant.1 all in
+    let all : HaveNumbers (λ (x : ListenerPlace). path_eq x.path c.args.path.now) numbers c.self.inside.places.items =
+    subst (λ z. HaveNumbers (λ (x : ListenerPlace). path_eq x.path z) numbers c.self.inside.places.items) keys
+    (subst (HaveNumbers (λ (x : ListenerPlace). path_eq x.path c.keys.result.now) numbers) places c.in_ok-push_at.ensures.all) in
+    let due = have_due (λ (x : ListenerPlace). path_eq x.path c.args.path.now) numbers c.self.inside.held.items c.self.inside.places.items c.self.invariant.1 all in
     if_ok c.queries_of.result c.queries_of.ensures (λ x h q.
     h q
     ∙ (λ i. is_filtered q && path_eq q.path c.args.path.now && list_any (has_of (held i) q) (lent i))

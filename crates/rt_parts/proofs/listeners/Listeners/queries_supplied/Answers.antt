@@ -3,7 +3,7 @@ use Rattle.std.specs.List.{AllPairs, list_any}
 use Rattle.rt_tree.specs.PathTree.{path_eq}
 use Rattle.rt_query.specs.Queries.{is_filtered}
 use Rattle.rt_query.specs.Supply.{does_supply}
-use Rattle.rt_parts.specs.declared.listeners.Held.{Held}
+use Rattle.rt_parts.specs.declared.listeners.HeldListener.{HeldListener}
 use Rattle.rt_parts.specs.inside.HeldView.{HaveSupplied}
 use Rattle.rt_parts.specs.inside.Placed.{IsIndex}
 use Rattle.rt_parts.specs.Listeners.{Listeners}
@@ -12,7 +12,7 @@ use Rattle.rt_parts.proofs.RenewLaws.{has_of, supplied_of_path}
 use Rattle.rt_parts.proofs.listeners.Listeners.queries_supplied.Goals as goal
 
 pub numbers_supplied-requires-clause-rising : goal.numbers_supplied-requires-clause-rising
-numbers_supplied-requires-clause-rising c = subst (AllPairs (λ (l m : Held). l.number < m.number)) (sym c.deref.ensures.value) c.self.invariant.0.rising
+numbers_supplied-requires-clause-rising c = subst (AllPairs (λ (l m : HeldListener). l.number < m.number)) (sym c.deref.ensures.value) c.self.invariant.0.rising
 
 pub numbers_supplied-requires-clause-index : goal.numbers_supplied-requires-clause-index
 numbers_supplied-requires-clause-index c =

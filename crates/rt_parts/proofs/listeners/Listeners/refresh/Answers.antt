@@ -6,7 +6,7 @@ use Rattle.rt_query.specs.Queries.{Query}
 use Rattle.rt_tree.specs.Assignments.{Assignment}
 use Rattle.rt_writes.specs.Writes.{Write}
 use Rattle.rt_cache.specs.Brought.{Brought}
-use Rattle.rt_parts.specs.declared.listeners.Held.{Held}
+use Rattle.rt_parts.specs.declared.listeners.HeldListener.{HeldListener}
 use Rattle.rt_parts.specs.inside.Pairs.{AreHanded, AreUp}
 use Rattle.rt_parts.specs.inside.Placed.{IsIndex}
 use Rattle.rt_parts.specs.Listeners.{Listeners}
@@ -21,7 +21,7 @@ use Rattle.rt_parts.proofs.listeners.Listeners.refresh.Goals as goal
 pub pairs_handed-requires-clause-rising : goal.pairs_handed-requires-clause-rising
 pairs_handed-requires-clause-rising c =
     let seen : c.deref.result.now ≡ c.self.inside.held.items = search rules in
-    subst (AllPairs (λ (l m : Held). l.number < m.number)) (sym seen) c.self.invariant.0.rising
+    subst (AllPairs (λ (l m : HeldListener). l.number < m.number)) (sym seen) c.self.invariant.0.rising
 
 pub pairs_handed-requires-clause-index : goal.pairs_handed-requires-clause-index
 pairs_handed-requires-clause-index c =
@@ -35,7 +35,7 @@ refresh-requires-clause-due c =
     let es : List Assignment = c.args.entries.now in
     let b : Brought = c.args.brought.now in
     let ws : List Write = c.args.pending.now in
-    let held : List Held = c.self.inside.held.items in
+    let held : List HeldListener = c.self.inside.held.items in
     let numbers : List ℕ = c.deref-4.result.now in
     let old : c.as_mut_slice.result.now ≡ held = search rules in
     let seen : c.deref.result.now ≡ held = search rules in
@@ -72,7 +72,7 @@ returns-clause-listeners c =
     let es : List Assignment = c.args.entries.now in
     let b : Brought = c.args.brought.now in
     let ws : List Write = c.args.pending.now in
-    let held : List Held = c.self.inside.held.items in
+    let held : List HeldListener = c.self.inside.held.items in
     let numbers : List ℕ = c.deref-4.result.now in
     let long : length c.refresh.new.listeners ≡ c.replace-held.result.len = search rules in
     let old : c.as_mut_slice.result.now ≡ held = search rules in
@@ -89,7 +89,7 @@ returns-clause-views c =
     let es : List Assignment = c.args.entries.now in
     let b : Brought = c.args.brought.now in
     let ws : List Write = c.args.pending.now in
-    let held : List Held = c.self.inside.held.items in
+    let held : List HeldListener = c.self.inside.held.items in
     let numbers : List ℕ = c.deref-4.result.now in
     let long : length c.refresh.new.listeners ≡ c.replace-held.result.len = search rules in
     let old : c.as_mut_slice.result.now ≡ held = search rules in
@@ -106,7 +106,7 @@ returns-clause-notes c =
     let es : List Assignment = c.args.entries.now in
     let b : Brought = c.args.brought.now in
     let ws : List Write = c.args.pending.now in
-    let held : List Held = c.self.inside.held.items in
+    let held : List HeldListener = c.self.inside.held.items in
     let numbers : List ℕ = c.deref-4.result.now in
     let old : c.as_mut_slice.result.now ≡ held = search rules in
     let seen : c.deref.result.now ≡ held = search rules in
@@ -122,7 +122,7 @@ returns-clause-counts c =
     let es : List Assignment = c.args.entries.now in
     let b : Brought = c.args.brought.now in
     let ws : List Write = c.args.pending.now in
-    let held : List Held = c.self.inside.held.items in
+    let held : List HeldListener = c.self.inside.held.items in
     let numbers : List ℕ = c.deref-4.result.now in
     let long : length c.refresh.new.listeners ≡ c.replace-held.result.len = search rules in
     let old : c.as_mut_slice.result.now ≡ held = search rules in

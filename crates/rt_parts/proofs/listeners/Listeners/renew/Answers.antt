@@ -7,8 +7,8 @@ use Rattle.rt_query.specs.Queries.{Query}
 use Rattle.rt_query.specs.QueryOrder.{query_cmp}
 use Rattle.rt_cache.specs.Recover.{is_among}
 use Rattle.rt_world.specs.declared.report.Note.{Note}
-use Rattle.rt_parts.specs.declared.listeners.Held.{Held}
-use Rattle.rt_parts.specs.declared.places.Place.{Place}
+use Rattle.rt_parts.specs.declared.listeners.HeldListener.{HeldListener}
+use Rattle.rt_parts.specs.declared.places.ListenerPlace.{ListenerPlace}
 use Rattle.rt_parts.specs.inside.Placed.{HaveNumbers, IsIndex}
 use Rattle.rt_parts.specs.Listeners.{Listeners}
 use Rattle.rt_parts.specs.Renewed.{all_told_of, count_of, renewed_of, view_of}
@@ -46,13 +46,13 @@ renew_all-requires-clause-numbers c =
     let given : c.deref-2.result.now ≡ c.in_ok-ordered.ordered.items = c.deref-2.ensures.value in
     let ordered : c.deref-4.result.now ≡ c.in_ok-ordered.ordered.items = c.deref-4.ensures.value in
     let qs : List Query = c.deref-4.result.now in
-    let test : Place → Bool = λ (x : Place). list_any (λ (q : Query). path_eq q.path x.path) qs in
+    let test : ListenerPlace → Bool = λ (x : ListenerPlace). list_any (λ (q : Query). path_eq q.path x.path) qs in
     let all : HaveNumbers test c.in_ok-numbers.numbers.items c.self.inside.places.items =
     subst (HaveNumbers test c.in_ok-numbers.numbers.items) places
-    (subst (λ rs. HaveNumbers (λ (x : Place). list_any (λ (q : Query). path_eq q.path x.path) rs) c.in_ok-numbers.numbers.items c.deref.result.now) (given ∙ sym ordered) c.in_ok-numbers.ensures.all) in
+    (subst (λ rs. HaveNumbers (λ (x : ListenerPlace). list_any (λ (q : Query). path_eq q.path x.path) rs) c.in_ok-numbers.numbers.items c.deref.result.now) (given ∙ sym ordered) c.in_ok-numbers.ensures.all) in
     let due = have_due test c.in_ok-numbers.numbers.items c.self.inside.held.items c.self.inside.places.items c.self.invariant.1 all in
-    subst (λ hs. All (λ (l : Held). is_among qs l.query ≡ true → list_any (λ n. l.number == n) c.deref-3.result.now ≡ true) hs) (sym old)
-    (subst (λ ns. All (λ (l : Held). is_among qs l.query ≡ true → list_any (λ n. l.number == n) ns ≡ true) c.self.inside.held.items) (sym numbers)
+    subst (λ hs. All (λ (l : HeldListener). is_among qs l.query ≡ true → list_any (λ n. l.number == n) c.deref-3.result.now ≡ true) hs) (sym old)
+    (subst (λ ns. All (λ (l : HeldListener). is_among qs l.query ≡ true → list_any (λ n. l.number == n) ns ≡ true) c.self.inside.held.items) (sym numbers)
     (λ k d lt e. due k d lt (path_of_among qs _ e)))
 
 pub renew_all-requires-clause-order : goal.renew_all-requires-clause-order
