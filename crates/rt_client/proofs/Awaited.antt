@@ -1,5 +1,5 @@
 -- What a wait makes of a seat, and what one for a message finds.
-use Rattle.std.proofs.Common.{◌≡◌, true, false, [], take, not, refl, sym, ap, ◌∙◌, append-nil, Option, Some, None, Result, Ok, Err, IfErr}
+use Rattle.std.proofs.Common.{◌≡◌, Bool, true, false, [], take, not, refl, sym, ap, ◌∙◌, append-nil, Option, Some, None, Result, Ok, Err, IfErr}
 use mathlib.Core.Bool.{true≢false}
 use Rattle.rt_wire.specs.declared.client.ClientMessage.{ClientMessage}
 use Rattle.rt_client.specs.declared.error.ClientError.{ClientError}
@@ -30,6 +30,14 @@ settles had left none s =
       held = λ some. absurd (true≢false (sym (ap not some) ∙ sym none));
       settled = λ _. s;
     }
+
+-- it held nothing
+pub held_none : (had : Seated) → false ≡ not (has_none had.ring.items) → has_none had.ring.items ≡ true
+held_none had e = of (has_none had.ring.items) e
+  where
+    of : (b : Bool) → false ≡ not b → b ≡ true
+    of true e = refl
+    of false e = absurd (true≢false (sym e))
 
 -- no message is found only where those who wait were told to stop, and so it is of what is left
 pub stopped_found : (old new : Locked) (answer : Result (Option ClientMessage) ClientError) → FindsMessage old (Some answer) new

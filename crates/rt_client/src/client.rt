@@ -11,7 +11,7 @@ ghost use Rattle.rt_world.specs.Calls.{step_of_message};
 ghost use Rattle.rt_client.specs.Calls.{Keeps, handed_back};
 ghost use Rattle.rt_client.specs.Waiting.{IsNumbered, IsMade, IsDone, IsUnmade, IsOpened, IsUnopened};
 ghost use Rattle.rt_client.specs.Waiting.{IsClosed, IsUnclosed, HasOutcome, HasRefusal, is_due, IsSettled};
-ghost use Rattle.rt_client.specs.Waiting.{IsUnsettled, Awaits, FindsMessage, IsFound, IsSent};
+ghost use Rattle.rt_client.specs.Waiting.{IsUnsettled, Awaits, FindsMessage, IsFound, IsSent, has_none};
 ghost use Rattle.rt_client.specs.Delivery.{RefusesTurn};
 ghost use Rattle.rt_world.specs.declared.step.Call.TheVariants as call;
 ghost use Rattle.rt_world.specs.declared.step.Step.TheVariants as step;
@@ -500,9 +500,10 @@ impl Client {
     /// # Errors
     ///
     /// Those of [`Shared::settle`], where the ring holds nothing.
-    #[tactic(auto, using(crate::proofs::Awaited::already, crate::proofs::Awaited::settles))]
+    #[tactic(auto, using(crate::proofs::Awaited::already, crate::proofs::Awaited::settles, crate::proofs::Awaited::held_none))]
     pub fn wait<R: Wait>(&self, rt: &R, seat: &mut Seat) -> Result<bool, ClientError>
         ensures there { IfOk result (λ there. Awaits seat.old there seat.new) }
+        ensures empty { IfErr result (λ _. has_none seat.old.ring.items ≡ true) }
         ensures refused { IfErr result (λ e. RefusesTurn seat.old e seat.new) }
         ensures memory { IfErr result (λ e. e ≢ NoMemory) }
         ensures unsettled { IfErr result (λ e. IsUnsettled seat.old e seat.new) }

@@ -118,26 +118,31 @@ fn patience(has_work: bool, next: Option<u64>, now: u64) -> Option<u64>
     }
 }
 
-// Nobody has come yet to what is served.
-fn guests_of(
+// Nobody has come yet to what is served. The folders are looked for, and the seed and the file are read, if there are
+// such.
+fn guests_of<Y>(
+    system: &Y,
     alloc: Global,
-    emulating: Emulating,
-    journal: Option<Journal>,
-    keys: Keys,
-    site: Site,
-    is_telling: bool,
-) -> Guests {
+    mut emulating: Emulating,
+    log: &mut Diary,
+) -> Result<Guests, EmulateFault>
+where
+    Y: Files<File = File> + RandomSource + Clock + AllocGlobal,
+{
+    let site = site_of(system, alloc, &mut emulating)?;
+    sow(system, &mut emulating)?;
+    let journal = journal_of(system, &mut emulating, log)?;
     let (tree, denied, origins) = emulating.into_parts();
     let hub = Hub::new(alloc, tree, denied, Bounds::full());
-    Guests::new(
+    Ok(Guests::new(
         alloc,
         hub,
         Keeper::new(journal),
-        keys,
+        Keys::begin(system),
         site,
         origins,
-        is_telling,
-    )
+        log.says(Kind::Message),
+    ))
 }
 
 impl Emulator {
@@ -153,7 +158,7 @@ impl Emulator {
     pub fn open<R, Y>(
         rt: &R,
         system: &Y,
-        mut emulating: Emulating,
+        emulating: Emulating,
         log: &mut Diary,
     ) -> Result<Emulator, EmulateFault>
     where
@@ -164,21 +169,12 @@ impl Emulator {
         let (host, count) = (emulating.host, emulating.count);
         let address = SocketAddr::new(host, emulating.port);
         let edge = Edge::open(rt, system, alloc, address)?;
-        let site = site_of(system, alloc, &mut emulating)?;
-        sow(system, &mut emulating)?;
-        let journal = journal_of(system, &mut emulating, log)?;
+        let guests = guests_of(system, alloc, emulating, log)?;
         diary::listening(alloc, log, address);
         Ok(Emulator {
             alloc,
             edge,
-            guests: guests_of(
-                alloc,
-                emulating,
-                journal,
-                Keys::begin(system),
-                site,
-                log.says(Kind::Message),
-            ),
+            guests,
             count,
             now: 0,
             has_visitor: false,

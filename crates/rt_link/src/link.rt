@@ -1,5 +1,5 @@
 // What runs a client's connections, one after another.
-ghost use Rattle.std.specs.Prelude.{◌≡◌, IfOk, OnOk};
+ghost use Rattle.std.specs.Prelude.{◌≡◌, ◌≤◌, IfErr, IfOk, OnOk};
 ghost use Rattle.rt_link.specs.Carrying.{IsLeft, begun, Gone};
 ghost use Rattle.rt_link.specs.inside.Counts.{counted};
 ghost use Rattle.rt_link.specs.Keeping.{PassesMore, WaitsBehind};
@@ -367,6 +367,8 @@ impl Link {
         address: SocketAddr,
     ) -> Result<LinkEnd, LinkFault>
         ensures waits { IfOk result (λ ending. WaitsBehind ending self.old.waited self.new.waited) }
+        ensures counts { self.old.passed_over ≤ self.new.passed_over }
+        ensures failed { IfErr result (λ _. self.new.waited ≡ self.old.waited) }
     {
         let due = self.waited;
         self.rest(rt, linked, due)?;
