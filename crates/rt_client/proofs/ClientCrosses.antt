@@ -21,9 +21,7 @@ use Rattle.rt_forms.specs.contracts.standing.Standing as standing
 use Rattle.rt_forms.specs.contracts.forms.Forms as forms
 use Rattle.rt_cover.specs.contracts.cover.Cover as cover
 use Rattle.rt_view.specs.contracts.position.Position as position
-use Rattle.rt_view.specs.contracts.children.Child as child
-use Rattle.rt_view.specs.contracts.children.ChildChain as known
-use Rattle.rt_view.specs.contracts.children.Ranged as ranged
+use Rattle.rt_view.specs.contracts.window.Child as child
 use Rattle.rt_view.specs.contracts.window.OrderedChildren as shown
 use Rattle.rt_view.specs.contracts.view.View as view
 use Rattle.rt_parts.specs.contracts.listeners.HeldListener as listening
@@ -114,17 +112,11 @@ position_send = search calls_cross depth 40 fits 20000
 child_send : IsSend child.the_row
 child_send = search calls_cross depth 40 fits 20000
 
-known_send : IsSend known.the_row
-known_send = search (position_send, child_send, calls_cross) depth 80 fits 60000
-
-ranged_send : IsSend ranged.the_row
-ranged_send = search (known_send, calls_cross) depth 40 fits 20000
-
 shown_send : IsSend shown.the_row
-shown_send = search (ranged_send, calls_cross) depth 40 fits 20000
+shown_send = search (position_send, child_send, calls_cross) depth 80 fits 60000
 
 view_send : IsSend view.the_row
-view_send = search (shown_send, ranged_send, known_send, position_send, child_send, calls_cross) depth 40 fits 60000
+view_send = search (shown_send, position_send, child_send, calls_cross) depth 40 fits 60000
 
 listening_send : IsSend listening.the_row
 listening_send = search (view_send, calls_cross) depth 40 fits 20000

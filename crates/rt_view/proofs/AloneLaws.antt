@@ -1,39 +1,23 @@
 -- What is told of one child that changes alone is what is told of all.
-use Rattle.std.proofs.Common.{◌≡◌, Bool, true, false, cond, not, ◌||◌, [], ◌∷◌, ◌++◌, map, refl, sym, ap, ◌∙◌, Option, Some, None}
+use Rattle.std.proofs.Common.{◌≡◌, Bool, true, false, cond, ◌||◌, [], ◌∷◌, ◌++◌, map, refl, sym, ap, ◌∙◌, Option, Some, None}
 use Rattle.rt_tree.specs.PathTree.{Key, PathTree, key_eq, key_eq-same, child_of, non_null, put}
 use Rattle.rt_tree.specs.Children.{children_of}
-use Rattle.rt_tree.specs.TreeEq.{tree_eq}
 use Rattle.rt_order.specs.declared.index.Index.{Index}
 use Rattle.rt_order.specs.Entries.{Entry, entry}
 use Rattle.rt_query.specs.Queries.{Query, is_filtered}
 use Rattle.rt_query.specs.Select.{row_of}
-use Rattle.rt_view.specs.declared.kinds.Kind.{Kind}
-use Rattle.rt_view.specs.declared.kinds.Kind.TheVariants.{Added, Moved, Changed}
-use Rattle.rt_view.specs.declared.news.Told.{Told}
+use Rattle.rt_view.specs.declared.change.Kind.{Kind}
+use Rattle.rt_view.specs.declared.change.Kind.TheVariants.{Added, Moved, Changed}
+use Rattle.rt_view.specs.declared.seen.Told.{Told}
 use Rattle.rt_view.specs.Changes.{placed_changes, removals}
-use Rattle.rt_view.specs.inside.Given.{change_of, is_given, row_change}
+use Rattle.rt_view.specs.inside.Given.{change_of, is_given, row_change, told_alone}
 use Rattle.rt_view.specs.inside.Windows.{Entries, before, value_at}
 use Rattle.rt_view.specs.inside.ViewIndex.{NotesAll, changes_to, entries_shown, gone_at, noted_in, removed_of, rows_in_tree}
-use Rattle.rt_view.specs.inside.Alone.{told_alone, told_there}
 use Rattle.rt_view.specs.inside.Telling.{given_of, gone_too, told_in, told_too}
 use Rattle.rt_view.proofs.Listed.{IsListed, listed-children, value_at-children}
 use Rattle.rt_view.proofs.TellLaws.{given-all, given_of-told, gone_also, gone_nothing, noted_nothing, removed-all, told_also}
 use Rattle.rt_view.proofs.TouchLaws.{child_of-put}
 use Rattle.rt_view.proofs.TreeLaws.{plain_rows}
-use Rattle.rt_view.proofs.TurnLaws.{stays_there}
-
--- ---- a row that is there now
-
--- nothing is told of a value that stays
-pub same_there : (index : Index) (old new : PathTree) (k : Key) (after : Option Key) → tree_eq old new ≡ true → told_there index (Some old) (record { key = k; value = new }) after ≡ []
-same_there index old new k after e = λ i.
-    cond (stays_there index old new e i) (change_of Moved k new after ∷ []) [] ++ cond (not (e i)) (change_of Changed k new after ∷ []) []
-
--- and of another one that it moved, where it did, and that it changed
-pub other_there : (index : Index) (old new : PathTree) (k : Key) (after : Option Key) → tree_eq old new ≡ false
-    → row_change Moved index (Some old) (record { key = k; value = new }) after ++ change_of Changed k new after ∷ [] ≡ told_there index (Some old) (record { key = k; value = new }) after
-other_there index old new k after e =
-    ap (λ b. row_change Moved index (Some old) (record { key = k; value = new }) after ++ cond (not b) (change_of Changed k new after ∷ []) []) (sym e)
 
 -- ---- one child that changes
 

@@ -1,6 +1,6 @@
 -- All children that are known, and those beside the range.
-use Rattle.std.specs.Prelude.{T, IfNone, IfSome}
-use Rattle.std.proofs.Common.{◌≡◌, true, false, cond, not, [], ◌∷◌, ◌++◌, refl, sym, ap, subst, ◌∙◌, Option, Some, None, is_some}
+use Rattle.std.specs.Prelude.{T}
+use Rattle.std.proofs.Common.{◌≡◌, ℕ, true, false, cond, not, [], ◌∷◌, ◌++◌, refl, sym, ap, subst, ◌∙◌, Option, Some, None, is_some}
 use Rattle.std.specs.List.{AllByRecursion, filter}
 use Rattle.std.specs.FinMap as map_of
 use Rattle.std.specs.FinMap.Entries.{is_sorted}
@@ -16,11 +16,10 @@ use Rattle.rt_query.specs.declared.query.Limit.{Limit}
 use Rattle.rt_query.specs.declared.query.Limit.TheVariants.{First, Last}
 use Rattle.rt_query.specs.Queries.{Query}
 use Rattle.rt_query.specs.Select.{sorted_by}
-use Rattle.rt_view.specs.declared.window.OrderedChildren.{OrderedChildren}
 use Rattle.rt_view.specs.inside.ViewIndex.{IsWindowOf, brought_in, in_order, taken_out, wholly}
-use Rattle.rt_view.specs.inside.Ranged.{Spread, all_known, inner, inside}
+use Rattle.rt_view.specs.inside.Ranged.{Halved, OrderedChildren, inner, inside}
 use Rattle.rt_view.specs.inside.Telling.{left_by, takes_place}
-use Rattle.rt_view.specs.inside.Windows.{Entries, IsWindow, all_of, is_there, joined, known_in, put_inside, rest_from, rest_in, shown_from, shown_in, without}
+use Rattle.rt_view.specs.inside.Windows.{Becomes, Entries, IsWhole, IsWindow, all_of, is_over, is_there, joined, known_in, put_inside, rest_from, rest_in, shown_from, shown_in, without}
 use Rattle.rt_view.proofs.Listed.{listed-in_order}
 use Rattle.rt_view.proofs.TouchLaws.{left_same, touched_order}
 use Rattle.rt_view.proofs.WindowLaws.{remove_entry-without, same_entry}
@@ -79,6 +78,24 @@ there_beside w e beside = at w.limit
 pub inside_is : (r : Range) (e : Entry) (v : PathTree) (es : Entries) → has r e ≡ true → map_of.put entry_cmp e v es ≡ put_inside r e v es
 inside_is r e v es h = sym (ap (λ b. cond b (map_of.put entry_cmp e v es) es) h)
 
+-- ---- a window whose limit stays
+
+pub shows : (m w : OrderedChildren) → w.limit ≡ m.limit → shown_from m.limit (inner w.children) ≡ shown_in w
+shows m w limit = ap (λ (l : Option Limit). shown_from l (inner w.children)) (sym limit)
+
+pub over_as : (a b : Option Limit) → b ≡ a → (x y : ℕ) → x ≡ y → is_over a x ≡ is_over b y
+over_as a b same x y is = ap (λ (l : Option Limit). is_over l x) (sym same) ∙ ap (is_over b) is
+
+pub becomes : (m w : OrderedChildren) (es all : Entries) → w.limit ≡ m.limit → es ≡ all → IsWindow m.limit (shown_from m.limit (inner w.children)) (rest_from m.limit (inner w.children)) es → Becomes m w all
+becomes m w es all limit same is =
+    subst (IsWindow m.limit (shown_in w) (rest_in w)) same (subst (λ (l : Option Limit). IsWindow m.limit (shown_from l (inner w.children)) (rest_from l (inner w.children)) es) (sym limit) is)
+
+-- a child was put beside the range
+pub stays_beside : (m w : OrderedChildren) (e : Entry) (v : PathTree) → w.limit ≡ m.limit → inner w.children ≡ inner m.children → has m.children.range e ≡ false → IsWhole m → Becomes m w (put_inside m.children.range e v (all_of m))
+stays_beside m w e v limit same beside whole =
+    becomes m w (all_of m) _ limit (sym (ap (λ b. cond b (map_of.put entry_cmp e v (all_of m)) (all_of m)) beside))
+    (subst (λ (c : Halved). IsWindow m.limit (shown_from m.limit c) (rest_from m.limit c) (all_of m)) (sym same) whole)
+
 -- taken out by its key, where another one doesn't take its place
 pub left_taken : (q : Query) (k : Key) (o : Option PathTree) (t new : PathTree) (w : OrderedChildren) → w.children.range ≡ q.range → o ≡ Some t → takes_place q.index t new ≡ false
     → without (entry q.index (k, t)) (all_of w) ≡ left_by q k o new (all_of w)
@@ -92,16 +109,8 @@ left_taken q k o t new w range is takes =
     ∙ sym (ap (λ x. left_by q k x new (all_of w)) is)
 
 -- all that are known, once one was taken out
-pub known_without : (e : Entry) (old new : Spread) → T (is_sorted entry_cmp (all_known old)) → all_known new ≡ remove_entry (is_at (entry_cmp e)) (all_known old) → all_known new ≡ without e (all_known old)
-known_without e old new up taken = taken ∙ remove_entry-without e (all_known old) up
-
--- ---- an answer that is known
-
-pub some_of : {X : Type 0} (P : X → Type 0) (o : Option X) (x : X) → o ≡ Some x → IfSome o P → P x
-some_of P o x is h = subst (λ q. IfSome q P) is h
-
-pub none_of : {X : Type 0} (P : Type 0) (o : Option X) → o ≡ None → IfNone o P → P
-none_of P o is h = subst (λ q. IfNone q P) is h
+pub known_without : (e : Entry) (old new : OrderedChildren) → T (is_sorted entry_cmp (known_in old)) → known_in new ≡ remove_entry (is_at (entry_cmp e)) (known_in old) → known_in new ≡ without e (known_in old)
+known_without e old new up taken = taken ∙ remove_entry-without e (known_in old) up
 
 -- ---- all children in order
 

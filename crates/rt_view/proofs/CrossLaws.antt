@@ -18,7 +18,7 @@ use Rattle.rt_query.specs.Queries.{Query}
 use Rattle.rt_query.specs.declared.query.Limit.{Limit}
 use Rattle.rt_query.specs.declared.query.Limit.TheVariants.{First, Last}
 use Rattle.rt_view.specs.declared.window.Turned.{Turned}
-use Rattle.rt_view.specs.declared.window.OrderedChildren.{OrderedChildren}
+use Rattle.rt_view.specs.inside.Ranged.{OrderedChildren}
 use Rattle.rt_view.specs.inside.Windows.{Entries, IsWindow, is_from_first, is_there, is_to_last, joined, value_at, without, rest_in, shown_in}
 use Rattle.rt_view.specs.inside.ViewIndex.{IsWindowOf, in_order, taken_out}
 use Rattle.rt_view.specs.inside.Telling.{left_by, takes_place}

@@ -15,7 +15,7 @@ use Rattle.rt_query.specs.Queries.{Query, is_filtered}
 use Rattle.rt_query.specs.Rows.{HasDistinctKeys, row_at}
 use Rattle.rt_query.specs.Select.{as_children, row_of, rows_of, select, tree_by, tree_of}
 use Rattle.rt_query.specs.laws.Select.{object-parts}
-use Rattle.rt_view.specs.declared.window.OrderedChildren.{OrderedChildren}
+use Rattle.rt_view.specs.inside.Ranged.{OrderedChildren}
 use Rattle.rt_view.specs.Views.{with_named}
 use Rattle.rt_view.specs.inside.Differences.{come, differing, emptied, gone, is_come, is_gone, stays}
 use Rattle.rt_view.specs.inside.ViewIndex.{IsWindowOf}

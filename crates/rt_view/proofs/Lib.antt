@@ -1,20 +1,16 @@
 pub mod AloneLaws
-pub mod ChildLists
 pub mod CrossLaws
 pub mod DifferLaws
 pub mod HalfLaws
 pub mod BesideLaws
 pub mod InsideLaws
 pub mod KnownLaws
-pub mod KnownWalks
 pub mod Listed
 pub mod MadeLaws
-pub mod Placed
 pub mod OrderLaws
 pub mod Orderings
 pub mod RangedLaws
 pub mod ReplayLaws
-mod RisingLaws
 pub mod RunLaws
 pub mod SeenLaws
 pub mod TellLaws

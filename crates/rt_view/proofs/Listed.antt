@@ -25,7 +25,7 @@ use Rattle.rt_view.specs.inside.Windows.{Entries, IsWindow, joined, shown_in, va
 pub use Rattle.rt_view.specs.inside.Windows.{IsListed, Once, Own}
 use Rattle.rt_view.specs.inside.ViewIndex.{IsWindowOf, entries_shown, in_order}
 use Rattle.rt_view.proofs.ReplayLaws.{row_at-cons}
-use Rattle.rt_view.specs.declared.window.OrderedChildren.{OrderedChildren}
+use Rattle.rt_view.specs.inside.Ranged.{OrderedChildren}
 use Rattle.rt_view.proofs.WindowLaws.{parts_rise, value_at-skip, value_at-puts, same_entry}
 
 abbrev puts : Entry → PathTree → Entries → Entries

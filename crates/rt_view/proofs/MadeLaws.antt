@@ -1,7 +1,6 @@
 -- Children in two halves round a range, made of a list that rises.
-use Rattle.std.specs.Prelude.{T}
+use Rattle.std.specs.Prelude.{T, ◌&&◌, min}
 use Rattle.std.proofs.Common.{◌≡◌, ℕ, ◌+◌, ◌-◌, ◌≤◌, Bool, true, false, cond, not, [], ◌∷◌, ◌++◌, List, map, length, take, drop, refl, sym, ap, subst, ◌∙◌, arith, append-nil, length-append, Option, Some, None}
-use Rattle.std.specs.Prelude.{◌&&◌, min}
 use Rattle.std.specs.declared.cmp.Ordering.TheVariants.{Less}
 use Rattle.std.specs.Ordering.{is_lt}
 use Rattle.std.specs.List.{AllByRecursion}
@@ -17,10 +16,9 @@ use Rattle.rt_order.specs.Cuts.{has}
 use Rattle.rt_order.specs.Entries.{Entry, entry_cmp}
 use Rattle.rt_query.specs.declared.query.Limit.{Limit}
 use Rattle.rt_query.specs.declared.query.Limit.TheVariants.{First, Last}
-use Rattle.rt_view.specs.declared.children.Child.{Child}
-use Rattle.rt_view.specs.inside.Halves.{Halved}
+use Rattle.rt_view.specs.declared.window.Child.{Child}
+use Rattle.rt_view.specs.inside.Ranged.{Halved, IsSpread, between, cut_at, inside, outside}
 use Rattle.rt_view.specs.inside.ChildChain.{IsMarked, Linked, children_in, halves_of, marked}
-use Rattle.rt_view.specs.inside.Ranged.{IsSpread, between, cut_at, inside, outside}
 use Rattle.rt_view.specs.inside.Windows.{Entries, IsWindow, rest_from, shown_from}
 use Rattle.rt_view.proofs.InsideLaws.{inside-append, passed, sorted_more}
 use Rattle.rt_view.proofs.RangedLaws.{Falls, Rises, all_append, all_left, all_passed, all_right, from_rises, head_below, inner_of, is_between, none_passed, not_above, not_below, to_falls}

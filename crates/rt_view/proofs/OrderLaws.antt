@@ -18,8 +18,8 @@ use Rattle.rt_order.specs.KeyOrder.{integer_of, key_cmp_by}
 use Rattle.rt_order.specs.Values.{Null}
 use Rattle.rt_query.specs.Queries.{Query}
 use Rattle.rt_query.specs.Select.{sorted_by}
-use Rattle.rt_view.specs.declared.news.Seen.{Seen}
-use Rattle.rt_view.specs.declared.window.OrderedChildren.{OrderedChildren}
+use Rattle.rt_view.specs.declared.seen.Seen.{Seen}
+use Rattle.rt_view.specs.inside.Ranged.{OrderedChildren}
 use Rattle.rt_view.specs.Views.{with_named}
 use Rattle.rt_view.specs.inside.Windows.{Entries, before, last_key, value_at}
 use Rattle.rt_view.specs.inside.ViewIndex.{AreWords, CanAsk, ComesToWord, IsInOrder, IsOrdered, NameWords, entries_of, entries_shown, ordered_in, rows_in_tree}

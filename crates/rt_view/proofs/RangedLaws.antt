@@ -1,7 +1,6 @@
 -- Children in two halves round a range: none above it stands in front of the cut, and none below it behind.
-use Rattle.std.specs.Prelude.{T, IfOk, OnErr, OnOk, is_err}
+use Rattle.std.specs.Prelude.{T, IfOk, OnErr, OnOk, is_err, ◌&&◌}
 use Rattle.std.proofs.Common.{◌≡◌, ℕ, suc, ◌-◌, ◌≤◌, Bool, true, false, cond, not, [], ◌∷◌, ◌++◌, length, take, drop, refl, sym, ap, subst, ◌∙◌, arith, append-nil, Option, Some, None, ◌⊎◌, inl, inr, Result, Ok, Err}
-use Rattle.std.specs.Prelude.{◌&&◌}
 use Rattle.std.specs.declared.cmp.Ordering.{Ordering}
 use Rattle.std.specs.declared.cmp.Ordering.TheVariants.{Less, Equal, Greater}
 use Rattle.std.specs.Ordering.{is_lt, is_eq, is_le, ordering_reverse}
@@ -20,12 +19,11 @@ use Rattle.rt_order.specs.Cuts.{has, is_after}
 use Rattle.rt_order.specs.Entries.{Entry, entry_cmp}
 use Rattle.rt_order.specs.laws.EntryOrder.{entry_cmp_total, entry_cmp-IsAntisymmetric}
 use Rattle.rt_order.proofs.CutLaws.{above_stays_after}
-use Rattle.rt_view.specs.inside.Halves.{Halved}
+use Rattle.rt_view.specs.inside.Ranged.{Halved, IsSpread, between, inside, outside}
 use Rattle.rt_view.specs.inside.ChildChain.{key_above, last_below, last_child, near_cut}
-use Rattle.rt_view.specs.inside.Ranged.{IsSpread, between, inside, outside}
-use Rattle.rt_view.specs.inside.Windows.{Entries, GoesAhead, GoesBack, Puts, before, half_at, half_in, is_from_first, is_there, is_to_last, last_key}
-use Rattle.rt_view.proofs.InsideLaws.{inside-append, inside-outside, inside-puts, inside-puts-beside, inside-removes-beside, inside-there, outside-puts-beside, outside-removes-beside, passed, removed, sorted_more}
-use Rattle.rt_view.proofs.WindowLaws.{below_of, same_entry, sorted-left, sorted-right}
+use Rattle.rt_view.specs.inside.Windows.{Entries, Goes, GoesAhead, GoesBack, Had, Puts, Taken, before, half_at, half_in, is_from_first, is_there, is_to_last, last_key}
+use Rattle.rt_view.proofs.InsideLaws.{inside-append, inside-outside, inside-puts, inside-puts-beside, inside-removes, inside-removes-beside, inside-there, inside-there-beside, outside-puts-beside, outside-removes-beside, passed, removed, sorted_more}
+use Rattle.rt_view.proofs.WindowLaws.{below_of, sorted-left, sorted-right}
 
 abbrev puts : Entry → PathTree → Entries → Entries
 puts e v es = map_of.put entry_cmp e v es
@@ -250,15 +248,6 @@ pub all_append : (P : Entry → Type 0) (es ds : Entries) → AllByRecursion (λ
 all_append P [] ds h g = g
 all_append P (x ∷ es) ds h g = (h.0, all_append P es ds h.1 g)
 
--- none is at an entry that differs from all
-removed_other : (q : Entry → Bool) (e : Entry) (es : Entries) → AllByRecursion (λ x. q x.0 ≡ false) es → q e ≡ true → removed e es ≡ es
-removed_other q e [] h is = refl
-removed_other q e (x ∷ es) h is =
-    elim (is_eq (entry_cmp e x.0)) as (λ b. is_eq (entry_cmp e x.0) ≡ b → cond b es (x ∷ removed e es) ≡ x ∷ es) [
-      | true ↦ λ t. let no : true ≡ false = sym is ∙ ap q (same_entry e x.0 t) ∙ h.0 in cc
-      | false ↦ λ t. ap (λ (xs : Entries). x ∷ xs) (removed_other q e es h.1 is)
-    ] refl
-
 -- ---- the last child below an entry
 
 below_passed : (e : Entry) (p : Entry → Bool) (es : Entries) → filter (λ (x : Entry × PathTree). not (is_le (entry_cmp e x.0))) (passed p es) ≡ passed p (filter (λ (x : Entry × PathTree). not (is_le (entry_cmp e x.0))) es)
@@ -381,10 +370,6 @@ both_of : (a b : Bool) → (a && b) ≡ true → (a ≡ true) × (b ≡ true)
 both_of true b h = (refl, h)
 both_of false b h = cc
 
-flip : (p : Entry → Bool) (es : Entries) → AllByRecursion (λ x. p x.0 ≡ true) es → AllByRecursion (λ x. not (p x.0) ≡ false) es
-flip p [] h = tt
-flip p (x ∷ es) h = (ap not h.0, flip p es h.1)
-
 -- with the last one below the cut, all are
 ends_low : (p : Entry → Bool) → Rises p → (es : Entries) (x : Entry × PathTree) → T (is_sorted entry_cmp (es ++ x ∷ [])) → p x.0 ≡ false → passed p (es ++ x ∷ []) ≡ []
 ends_low p up [] x h off = ap (λ b. cond b (x ∷ []) []) off
@@ -444,153 +429,135 @@ module _ (from to : Range) (c : Halved) (low high : ℕ) (s : IsSpread from to c
       last_all from e c.1 s.behind ∙ sym (ap (before e) in_behind ∙ ap last_key (below_passed e (has to) c.1 ∙ all_below (has to) down e parts.1 c.1))
 
   module _ (d : Halved) (e : Entry) where
-    -- ---- a child below the range is put
+    -- whether it lies in the range
+    is_in : (b : Bool) → (has from e && has to e) ≡ b → has (between from to) e ≡ b
+    is_in b at = has-between from to s.from_only s.to_only e ∙ at
 
-    low_lands : (v : PathTree) (h : Half) → has from e ≡ false → h ≡ half_at e Front c → Puts h e v c d → (d.0 ≡ puts e v c.0) × (d.1 ≡ c.1)
-    low_lands v h off at q = subst (λ k. Puts k e v c d) (at ∙ goes_front (is_to_last c.0 e) (is_from_first c.1 e) (low_first (has from) up e off c.1 s.behind)) q
+    -- ---- counted anew, where the children of the range are those that they were
 
-    low_front : (v : PathTree) (h : Half) → has from e ≡ false → h ≡ half_at e Front c → Puts h e v c d → inside (between from to) d.0 ≡ inside (between from to) c.0
-    low_front v h off at q = ap (inside (between from to)) (low_lands v h off at q).0 ∙ inside-puts-beside (between from to) e v c.0 (not_above from to s.from_only s.to_only e off)
+    same_length : inner_of from to d ≡ inner_of from to c → (length (inside (between from to) d.0) ≡ length (inside (between from to) c.0)) × (length (inside (between from to) d.1) ≡ length (inside (between from to) c.1))
+    same_length same = (ap (λ (x : Halved). length x.0) same, ap (λ (x : Halved). length x.1) same)
 
-    pub low_stays : (v : PathTree) (h : Half) → has from e ≡ false → h ≡ half_at e Front c → Puts h e v c d → inner_of from to d ≡ inner_of from to c
-    low_stays v h off at q = λ i. (low_front v h off at q i, inside (between from to) ((low_lands v h off at q).1 i))
+    pub counts_fit : inner_of from to d ≡ inner_of from to c → (length (inside (between from to) c.0) ≤ length d.0) × (length (inside (between from to) c.1) ≤ length d.1)
+    counts_fit same =
+        let l = same_length same in
+        (omega (arith, inside_fits (between from to) d.0, l.0), omega (arith, inside_fits (between from to) d.1, l.1))
 
-    pub low_fits : (v : PathTree) (h : Half) → has from e ≡ false → h ≡ half_at e Front c → Puts h e v c d → length (inside (between from to) c.0) ≤ length d.0
-    low_fits v h off at q = omega (arith, inside_fits (between from to) d.0, ap (λ (es : Entries). length es) (low_front v h off at q))
-
-    pub low_put : (v : PathTree) (h : Half) (n : ℕ) → has from e ≡ false → h ≡ half_at e Front c → Puts h e v c d → n ≡ length d.0 - length (inside (between from to) c.0) → IsSpread from to d n high
-    low_put v h n off at q is =
-        let l = low_lands v h off at q in
+    counted : (n m : ℕ) → inner_of from to d ≡ inner_of from to c → IsFront from to d.0 × IsBehind from d.1 → n ≡ length d.0 - length (inside (between from to) c.0) → m ≡ length d.1 - length (inside (between from to) c.1) → IsSpread from to d n m
+    counted n m same at low_is high_is =
+        let l = same_length same in
         record {
           from_only = s.from_only;
           to_only = s.to_only;
-          front = subst (IsFront from to) (sym l.0) (all-puts (λ x. (has from x && not (has to x)) ≡ false) e v c.0 (ap (λ a. a && not (has to e)) off) s.front);
-          behind = subst (IsBehind from) (sym l.1) s.behind;
-          lows = omega (arith, is, inside-outside (between from to) d.0, ap (λ (es : Entries). length es) (low_front v h off at q));
-          highs = s.highs ∙ ap (λ (es : Entries). length (outside (between from to) es)) (sym l.1);
+          front = at.0;
+          behind = at.1;
+          lows = omega (arith, low_is, inside-outside (between from to) d.0, l.0);
+          highs = omega (arith, high_is, inside-outside (between from to) d.1, l.1);
         }
 
-    -- ---- a child above it
+    -- where those beside it are
+    uncounted : (outside (between from to) d.0 ≡ outside (between from to) c.0) × (outside (between from to) d.1 ≡ outside (between from to) c.1) → IsFront from to d.0 × IsBehind from d.1 → IsSpread from to d low high
+    uncounted same at = record {
+      from_only = s.from_only;
+      to_only = s.to_only;
+      front = at.0;
+      behind = at.1;
+      lows = s.lows ∙ ap (λ (es : Entries). length es) (sym same.0);
+      highs = s.highs ∙ ap (λ (es : Entries). length es) (sym same.1);
+    }
 
-    high_lands : (v : PathTree) (h : Half) → has from e ≡ true → has to e ≡ false → h ≡ half_at e Behind c → Puts h e v c d → (d.0 ≡ c.0) × (d.1 ≡ puts e v c.1)
-    high_lands v h on off at q = subst (λ k. Puts k e v c d) (at ∙ goes_behind (is_to_last c.0 e) (is_from_first c.1 e) (high_last (has from) (has to) up down e on off c.0 s.front)) q
+    -- ---- a child is put
 
-    high_behind : (v : PathTree) (h : Half) → has from e ≡ true → has to e ≡ false → h ≡ half_at e Behind c → Puts h e v c d → inside (between from to) d.1 ≡ inside (between from to) c.1
-    high_behind v h on off at q = ap (inside (between from to)) (high_lands v h on off at q).1 ∙ inside-puts-beside (between from to) e v c.1 (not_below from to s.from_only s.to_only e on off)
+    -- a half in which it may stand
+    abbrev Fits : Half → Type 0
+    Fits Front = (has from e && not (has to e)) ≡ false
+    Fits Behind = has from e ≡ true
 
-    pub high_stays : (v : PathTree) (h : Half) → has from e ≡ true → has to e ≡ false → h ≡ half_at e Behind c → Puts h e v c d → inner_of from to d ≡ inner_of from to c
-    high_stays v h on off at q = λ i. (inside (between from to) ((high_lands v h on off at q).0 i), high_behind v h on off at q i)
+    lands : (v : PathTree) (h : Half) → Fits h → Puts h e v c d → IsFront from to d.0 × IsBehind from d.1
+    lands v Front at q = (subst (IsFront from to) (sym q.0) (all-puts (λ x. (has from x && not (has to x)) ≡ false) e v c.0 at s.front), subst (IsBehind from) (sym q.1) s.behind)
+    lands v Behind at q = (subst (IsFront from to) (sym q.0) s.front, subst (IsBehind from) (sym q.1) (all-puts (λ x. has from x ≡ true) e v c.1 at s.behind))
 
-    pub high_fits : (v : PathTree) (h : Half) → has from e ≡ true → has to e ≡ false → h ≡ half_at e Behind c → Puts h e v c d → length (inside (between from to) c.1) ≤ length d.1
-    high_fits v h on off at q = omega (arith, inside_fits (between from to) d.1, ap (λ (es : Entries). length es) (high_behind v h on off at q))
+    -- beside the range, where the cut lies: below it in front, above it behind
+    beside_fits : (side h : Half) → side ≡ cond (has from e) Behind Front → (has from e && has to e) ≡ false → h ≡ half_at e side c → Fits h
+    beside_fits side h is off at =
+        elim (has from e) as (λ b. has from e ≡ b → side ≡ cond b Behind Front → (b && has to e) ≡ false → Fits h) [
+          | true ↦ λ t f o. subst Fits (sym (at ∙ ap (λ x. half_at e x c) f ∙ goes_behind (is_to_last c.0 e) (is_from_first c.1 e) (high_last (has from) (has to) up down e t o c.0 s.front))) t
+          | false ↦ λ t f o. subst Fits (sym (at ∙ ap (λ x. half_at e x c) f ∙ goes_front (is_to_last c.0 e) (is_from_first c.1 e) (low_first (has from) up e t c.1 s.behind))) (ap (λ a. a && not (has to e)) t)
+        ] refl is off
 
-    pub high_put : (v : PathTree) (h : Half) (n : ℕ) → has from e ≡ true → has to e ≡ false → h ≡ half_at e Behind c → Puts h e v c d → n ≡ length d.1 - length (inside (between from to) c.1) → IsSpread from to d low n
-    high_put v h n on off at q is =
-        let l = high_lands v h on off at q in
-        record {
-          from_only = s.from_only;
-          to_only = s.to_only;
-          front = subst (IsFront from to) (sym l.0) s.front;
-          behind = subst (IsBehind from) (sym l.1) (all-puts (λ x. has from x ≡ true) e v c.1 on s.behind);
-          lows = s.lows ∙ ap (λ (es : Entries). length (outside (between from to) es)) (sym l.0);
-          highs = omega (arith, is, inside-outside (between from to) d.1, ap (λ (es : Entries). length es) (high_behind v h on off at q));
-        }
+    pub beside_stays : (v : PathTree) (h : Half) → (has from e && has to e) ≡ false → Puts h e v c d → inner_of from to d ≡ inner_of from to c
+    beside_stays v Front off q = λ i. ((ap (inside (between from to)) q.0 ∙ inside-puts-beside (between from to) e v c.0 (is_in false off)) i, inside (between from to) (q.1 i))
+    beside_stays v Behind off q = λ i. (inside (between from to) (q.0 i), (ap (inside (between from to)) q.1 ∙ inside-puts-beside (between from to) e v c.1 (is_in false off)) i)
 
-    -- ---- a child of the range
+    pub beside_put : (v : PathTree) (side h : Half) (n m : ℕ) → side ≡ cond (has from e) Behind Front → (has from e && has to e) ≡ false → h ≡ half_at e side c → Puts h e v c d
+        → n ≡ length d.0 - length (inside (between from to) c.0) → m ≡ length d.1 - length (inside (between from to) c.1) → IsSpread from to d n m
+    beside_put v side h n m is off at q low_is high_is = counted n m (beside_stays v h off q) (lands v h (beside_fits side h is off at) q) low_is high_is
 
-    pub mid_puts : (v : PathTree) (h : Half) → T (is_sorted entry_cmp (c.0 ++ c.1)) → has from e ≡ true → has to e ≡ true → Puts h e v c d → Puts h e v (inner_of from to c) (inner_of from to d)
-    mid_puts v Front rise on under q = (ap (inside (between from to)) q.0 ∙ inside-puts (between from to) e v c.0 (sorted-left c.0 c.1 rise) (is_between from to s.from_only s.to_only e on under), ap (inside (between from to)) q.1)
-    mid_puts v Behind rise on under q = (ap (inside (between from to)) q.0, ap (inside (between from to)) q.1 ∙ inside-puts (between from to) e v c.1 (sorted-right c.0 c.1 rise) (is_between from to s.from_only s.to_only e on under))
+    within : (has from e && has to e) ≡ true → (h : Half) → Fits h
+    within at Front = let both = both_of (has from e) (has to e) at in λ i. both.0 i && not (both.1 i)
+    within at Behind = (both_of (has from e) (has to e) at).0
 
-    pub mid_put : (v : PathTree) (h : Half) → has from e ≡ true → has to e ≡ true → Puts h e v c d → IsSpread from to d low high
-    mid_put v Front on under q =
-        record {
-          from_only = s.from_only;
-          to_only = s.to_only;
-          front = subst (IsFront from to) (sym q.0) (all-puts (λ x. (has from x && not (has to x)) ≡ false) e v c.0 (λ i. on i && not (under i)) s.front);
-          behind = subst (IsBehind from) (sym q.1) s.behind;
-          lows = s.lows ∙ ap (λ (es : Entries). length es) (sym (ap (outside (between from to)) q.0 ∙ outside-puts-beside (between from to) e v c.0 (is_between from to s.from_only s.to_only e on under)));
-          highs = s.highs ∙ ap (λ (es : Entries). length (outside (between from to) es)) (sym q.1);
-        }
-    mid_put v Behind on under q =
-        record {
-          from_only = s.from_only;
-          to_only = s.to_only;
-          front = subst (IsFront from to) (sym q.0) s.front;
-          behind = subst (IsBehind from) (sym q.1) (all-puts (λ x. has from x ≡ true) e v c.1 on s.behind);
-          lows = s.lows ∙ ap (λ (es : Entries). length (outside (between from to) es)) (sym q.0);
-          highs = s.highs ∙ ap (λ (es : Entries). length es) (sym (ap (outside (between from to)) q.1 ∙ outside-puts-beside (between from to) e v c.1 (is_between from to s.from_only s.to_only e on under)));
-        }
+    others_stay : (v : PathTree) (h : Half) → (has from e && has to e) ≡ true → Puts h e v c d → (outside (between from to) d.0 ≡ outside (between from to) c.0) × (outside (between from to) d.1 ≡ outside (between from to) c.1)
+    others_stay v Front at q = (ap (outside (between from to)) q.0 ∙ outside-puts-beside (between from to) e v c.0 (is_in true at), ap (outside (between from to)) q.1)
+    others_stay v Behind at q = (ap (outside (between from to)) q.0, ap (outside (between from to)) q.1 ∙ outside-puts-beside (between from to) e v c.1 (is_in true at))
 
-    pub mid_half : (at_cut : Half) → T (is_sorted entry_cmp (c.0 ++ c.1)) → has from e ≡ true → has to e ≡ true → half_at e at_cut c ≡ half_at e at_cut (inner_of from to c)
-    mid_half at_cut rise on under =
-        let front : is_to_last (inside (between from to) c.0) e ≡ is_to_last c.0 e = ap (λ (es : Entries). is_to_last es e) in_front ∙ last_passed (has from) up e on c.0 (sorted-left c.0 c.1 rise) in
-        let behind : is_from_first (inside (between from to) c.1) e ≡ is_from_first c.1 e = ap (λ (es : Entries). is_from_first es e) in_behind ∙ first_passed (has to) down e under c.1 (sorted-right c.0 c.1 rise) in
+    pub mid_put : (v : PathTree) (h : Half) → (has from e && has to e) ≡ true → Puts h e v c d → IsSpread from to d low high
+    mid_put v h at q = uncounted (others_stay v h at q) (lands v h (within at h) q)
+
+    pub mid_puts : (v : PathTree) (h : Half) → T (is_sorted entry_cmp (c.0 ++ c.1)) → (has from e && has to e) ≡ true → Puts h e v c d → Puts h e v (inner_of from to c) (inner_of from to d)
+    mid_puts v Front rise at q = (ap (inside (between from to)) q.0 ∙ inside-puts (between from to) e v c.0 (sorted-left c.0 c.1 rise) (is_in true at), ap (inside (between from to)) q.1)
+    mid_puts v Behind rise at q = (ap (inside (between from to)) q.0, ap (inside (between from to)) q.1 ∙ inside-puts (between from to) e v c.1 (sorted-right c.0 c.1 rise) (is_in true at))
+
+    pub mid_half : (at_cut : Half) → T (is_sorted entry_cmp (c.0 ++ c.1)) → (has from e && has to e) ≡ true → half_at e at_cut c ≡ half_at e at_cut (inner_of from to c)
+    mid_half at_cut rise at =
+        let both = both_of (has from e) (has to e) at in
+        let front : is_to_last (inside (between from to) c.0) e ≡ is_to_last c.0 e = ap (λ (es : Entries). is_to_last es e) in_front ∙ last_passed (has from) up e both.0 c.0 (sorted-left c.0 c.1 rise) in
+        let behind : is_from_first (inside (between from to) c.1) e ≡ is_from_first c.1 e = ap (λ (es : Entries). is_from_first es e) in_behind ∙ first_passed (has to) down e both.1 c.1 (sorted-right c.0 c.1 rise) in
         sym (λ i. half_between (front i) (behind i) at_cut)
 
-    pub mid_there : (h : Half) → has from e ≡ true → has to e ≡ true → is_there e (half_in h c) ≡ is_there e (half_in h (inner_of from to c))
-    mid_there Front on under = sym (inside-there (between from to) e c.0 (is_between from to s.from_only s.to_only e on under))
-    mid_there Behind on under = sym (inside-there (between from to) e c.1 (is_between from to s.from_only s.to_only e on under))
+    pub mid_there : (h : Half) → (has from e && has to e) ≡ true → is_there e (half_in h c) ≡ is_there e (half_in h (inner_of from to c))
+    mid_there Front at = sym (inside-there (between from to) e c.0 (is_in true at))
+    mid_there Behind at = sym (inside-there (between from to) e c.1 (is_in true at))
+
+    beside_there : (h : Half) → (has from e && has to e) ≡ false → false ≡ is_there e (half_in h (inner_of from to c))
+    beside_there Front off = sym (inside-there-beside (between from to) e c.0 (is_in false off))
+    beside_there Behind off = sym (inside-there-beside (between from to) e c.1 (is_in false off))
 
     -- ---- a child is taken out
 
-    abbrev pub Taken : Type 0
-    Taken = (d.0 ≡ removed e c.0) × (d.1 ≡ removed e c.1)
+    left : Taken e c d → IsFront from to d.0 × IsBehind from d.1
+    left t = (subst (IsFront from to) (sym t.0) (all-removes (λ x. (has from x && not (has to x)) ≡ false) e c.0 s.front), subst (IsBehind from) (sym t.1) (all-removes (λ x. has from x ≡ true) e c.1 s.behind))
 
-    low_gone : has from e ≡ false → Taken → inside (between from to) d.0 ≡ inside (between from to) c.0
-    low_gone off t = ap (inside (between from to)) t.0 ∙ inside-removes-beside (between from to) e c.0 (not_above from to s.from_only s.to_only e off)
+    pub taken_stays : (has from e && has to e) ≡ false → Taken e c d → inner_of from to d ≡ inner_of from to c
+    taken_stays off t = λ i. (
+      (ap (inside (between from to)) t.0 ∙ inside-removes-beside (between from to) e c.0 (is_in false off)) i,
+      (ap (inside (between from to)) t.1 ∙ inside-removes-beside (between from to) e c.1 (is_in false off)) i,
+    )
 
-    pub low_taken_fits : has from e ≡ false → Taken → length (inside (between from to) c.0) ≤ length d.0
-    low_taken_fits off t = omega (arith, inside_fits (between from to) d.0, ap (λ (es : Entries). length es) (low_gone off t))
+    pub beside_taken : (n m : ℕ) → (has from e && has to e) ≡ false → Taken e c d → n ≡ length d.0 - length (inside (between from to) c.0) → m ≡ length d.1 - length (inside (between from to) c.1) → IsSpread from to d n m
+    beside_taken n m off t low_is high_is = counted n m (taken_stays off t) (left t) low_is high_is
 
-    pub low_taken : (n : ℕ) → has from e ≡ false → Taken → n ≡ length d.0 - length (inside (between from to) c.0) → IsSpread from to d n high
-    low_taken n off t is =
-        let stays : d.1 ≡ c.1 = t.1 ∙ removed_other (λ x. not (has from x)) e c.1 (flip (has from) c.1 s.behind) (ap not off) in
-        record {
-          from_only = s.from_only;
-          to_only = s.to_only;
-          front = subst (IsFront from to) (sym t.0) (all-removes (λ x. (has from x && not (has to x)) ≡ false) e c.0 s.front);
-          behind = subst (IsBehind from) (sym stays) s.behind;
-          lows = omega (arith, is, inside-outside (between from to) d.0, ap (λ (es : Entries). length es) (low_gone off t));
-          highs = s.highs ∙ ap (λ (es : Entries). length (outside (between from to) es)) (sym stays);
-        }
+    pub mid_taken : (has from e && has to e) ≡ true → Taken e c d → IsSpread from to d low high
+    mid_taken at t = uncounted (
+      ap (outside (between from to)) t.0 ∙ outside-removes-beside (between from to) e c.0 (is_in true at),
+      ap (outside (between from to)) t.1 ∙ outside-removes-beside (between from to) e c.1 (is_in true at),
+    ) (left t)
 
-    high_gone : has from e ≡ true → has to e ≡ false → Taken → inside (between from to) d.1 ≡ inside (between from to) c.1
-    high_gone on off t = ap (inside (between from to)) t.1 ∙ inside-removes-beside (between from to) e c.1 (not_below from to s.from_only s.to_only e on off)
+    pub taken_inner : Taken e c d → Taken e (inner_of from to c) (inner_of from to d)
+    taken_inner t = (ap (inside (between from to)) t.0 ∙ inside-removes (between from to) e c.0, ap (inside (between from to)) t.1 ∙ inside-removes (between from to) e c.1)
 
-    pub high_taken_fits : has from e ≡ true → has to e ≡ false → Taken → length (inside (between from to) c.1) ≤ length d.1
-    high_taken_fits on off t = omega (arith, inside_fits (between from to) d.1, ap (λ (es : Entries). length es) (high_gone on off t))
+    pub mid_had : (answer : Option Half) → (has from e && has to e) ≡ true → Had e answer c → Had e answer (inner_of from to c)
+    mid_had answer at h = (h.0 ∙ mid_there Front at, h.1 ∙ mid_there Behind at)
 
-    pub high_taken : (n : ℕ) → has from e ≡ true → has to e ≡ false → Taken → n ≡ length d.1 - length (inside (between from to) c.1) → IsSpread from to d low n
-    high_taken n on off t is =
-        let stays : d.0 ≡ c.0 = t.0 ∙ removed_other (λ x. has from x && not (has to x)) e c.0 s.front (λ i. on i && not (off i)) in
-        record {
-          from_only = s.from_only;
-          to_only = s.to_only;
-          front = subst (IsFront from to) (sym stays) s.front;
-          behind = subst (IsBehind from) (sym t.1) (all-removes (λ x. has from x ≡ true) e c.1 s.behind);
-          lows = s.lows ∙ ap (λ (es : Entries). length (outside (between from to) es)) (sym stays);
-          highs = omega (arith, is, inside-outside (between from to) d.1, ap (λ (es : Entries). length es) (high_gone on off t));
-        }
-
-    pub mid_taken : has from e ≡ true → has to e ≡ true → Taken → IsSpread from to d low high
-    mid_taken on under t =
-        let is = is_between from to s.from_only s.to_only e on under in
-        record {
-          from_only = s.from_only;
-          to_only = s.to_only;
-          front = subst (IsFront from to) (sym t.0) (all-removes (λ x. (has from x && not (has to x)) ≡ false) e c.0 s.front);
-          behind = subst (IsBehind from) (sym t.1) (all-removes (λ x. has from x ≡ true) e c.1 s.behind);
-          lows = s.lows ∙ ap (λ (es : Entries). length es) (sym (ap (outside (between from to)) t.0 ∙ outside-removes-beside (between from to) e c.0 is));
-          highs = s.highs ∙ ap (λ (es : Entries). length es) (sym (ap (outside (between from to)) t.1 ∙ outside-removes-beside (between from to) e c.1 is));
-        }
+    pub beside_had : (has from e && has to e) ≡ false → Had e None (inner_of from to c)
+    beside_had off = (beside_there Front off, beside_there Behind off)
 
   -- ---- a child crosses the cut
 
   abbrev pub Crossed : (Halved → Halved → Type 0) → Halved → Type 0
   Crossed Goes d = Goes (inner_of from to c) (inner_of from to d) × IsSpread from to d low high
 
-  pub goes_back : (d : Halved) (child : Option (Key × PathTree)) → T (is_sorted entry_cmp (c.0 ++ c.1)) → (length (inside (between from to) c.0) ≡ 0 → ⊥) → GoesBack child c d → Crossed (GoesBack child) d
+  goes_back : (d : Halved) (child : Option (Key × PathTree)) → T (is_sorted entry_cmp (c.0 ++ c.1)) → (length (inside (between from to) c.0) ≡ 0 → ⊥) → GoesBack child c d → Crossed (GoesBack child) d
   goes_back d None rise some g = absurd (some (ap (λ (es : Entries). length (inside (between from to) es)) g.0))
   goes_back d (Some k) rise some g = at (has from g.0) refl
     where
@@ -621,7 +588,7 @@ module _ (from to : Range) (c : Halved) (low high : ℕ) (s : IsSpread from to c
             },
           )
 
-  pub goes_ahead : (d : Halved) (child : Option (Key × PathTree)) → T (is_sorted entry_cmp (c.0 ++ c.1)) → (length (inside (between from to) c.1) ≡ 0 → ⊥) → GoesAhead child c d → Crossed (GoesAhead child) d
+  goes_ahead : (d : Halved) (child : Option (Key × PathTree)) → T (is_sorted entry_cmp (c.0 ++ c.1)) → (length (inside (between from to) c.1) ≡ 0 → ⊥) → GoesAhead child c d → Crossed (GoesAhead child) d
   goes_ahead d None rise some g = absurd (some (ap (λ (es : Entries). length (inside (between from to) es)) g.0))
   goes_ahead d (Some k) rise some g = at (has to g.0) refl
     where
@@ -651,9 +618,17 @@ module _ (from to : Range) (c : Halved) (low high : ℕ) (s : IsSpread from to c
             },
           )
 
+  pub goes_over : (h : Half) (d : Halved) (child : Option (Key × PathTree)) → T (is_sorted entry_cmp (c.0 ++ c.1)) → (length (half_in h (inner_of from to c)) ≡ 0 → ⊥) → Goes h child c d → Crossed (Goes h child) d
+  goes_over Front d child rise some g = goes_back d child rise some g
+  goes_over Behind d child rise some g = goes_ahead d child rise some g
+
 no_length : (es : Entries) → length es ≡ 0 → es ≡ []
 no_length [] h = refl
 no_length (x ∷ es) h = absurd (omega (arith, h))
+
+pub nothing_goes : (h : Half) (c : Halved) → length (half_in h c) ≡ 0 → Goes h None c c
+nothing_goes Front c none = (no_length c.0 none, refl)
+nothing_goes Behind c none = (no_length c.1 none, refl)
 
 -- ---- as a result has it
 

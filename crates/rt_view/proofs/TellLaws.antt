@@ -19,14 +19,14 @@ use Rattle.rt_query.specs.Rows.{row_at}
 use Rattle.rt_query.specs.Select.{row_of}
 use Rattle.rt_view.specs.declared.change.Change.{Change}
 use Rattle.rt_view.specs.declared.change.Change.TheVariants.{Removed}
-use Rattle.rt_view.specs.declared.kinds.Kind.{Kind}
-use Rattle.rt_view.specs.declared.kinds.Kind.TheVariants as kind
+use Rattle.rt_view.specs.declared.change.Kind.{Kind}
+use Rattle.rt_view.specs.declared.change.Kind.TheVariants as kind
 use Rattle.rt_view.specs.Changes.{placed, removals, placed_changes}
 use Rattle.rt_view.specs.inside.Given.{change_of, is_given}
 use Rattle.rt_view.specs.inside.Windows.{Entries, value_at, before, last_key}
 use Rattle.rt_view.specs.inside.ViewIndex.{is_noted, Notes, noted_in, gone_at, gone_from, removed_of, given_in, rows_in_tree}
-use Rattle.rt_view.specs.declared.news.Seen.{Seen}
-use Rattle.rt_view.specs.declared.news.Told.{Told}
+use Rattle.rt_view.specs.declared.seen.Seen.{Seen}
+use Rattle.rt_view.specs.declared.seen.Told.{Told}
 use Rattle.rt_view.specs.inside.Telling.{given_of, gone_too, keys_in, told_in, told_of, told_too}
 use Rattle.rt_view.proofs.Listed.{IsListed, Once, same_listed, passing, listed-filter, value_at-filter, listed-puts, value_at-puts_all, puts_there, value_at-cons, value_at-children}
 use Rattle.rt_view.proofs.WindowLaws.{above_head, below_of, last_key-push}

@@ -1,6 +1,6 @@
 -- What is shown, as a tree and as rows.
 use Rattle.std.specs.Prelude.{◌==◌}
-use Rattle.std.proofs.Common.{◌≡◌, Bool, true, false, cond, not, ◌&&◌, ◌||◌, length, List, [], ◌∷◌, ◌++◌, map, refl, sym, ap, subst, ◌∙◌, arith, eqb-true, append-nil, Option, Some, None, is_some}
+use Rattle.std.proofs.Common.{◌≡◌, Bool, true, false, cond, not, ◌&&◌, length, List, [], ◌∷◌, ◌++◌, map, refl, sym, ap, subst, ◌∙◌, arith, eqb-true, append-nil, Option, Some, None}
 use Rattle.std.specs.Option.{option_eq}
 use Rattle.std.specs.Cmp.Lexicographic.{pointwise}
 use Rattle.rt_tree.specs.Leaf.{LeafValue}
@@ -9,7 +9,6 @@ use Rattle.rt_tree.specs.Children.{children_of, child_of-children_of}
 use Rattle.rt_tree.specs.TreeEq.{leaf_eq}
 use Rattle.rt_order.specs.declared.index.Index.{Index}
 use Rattle.rt_query.specs.declared.row.Row.{Row}
-use Rattle.rt_query.specs.declared.query.Limit.{Limit}
 use Rattle.rt_query.specs.Queries.{Query, is_filtered}
 use Rattle.rt_query.specs.Select.{Shown, row_of, rows_of, select, as_children, tree_by, tree_of}
 use Rattle.rt_query.specs.inside.ShownView.{IsShown}
@@ -181,16 +180,6 @@ pub kept_order : (q : Query) (t : PathTree) (kept : ViewIndex) → IsKept q t ke
 kept_order q t Ordered h = h
 kept_order q t (Plain w) h = h.0
 kept_order q t (Filtered w u) h = h.0
-
--- a query with no limit and no range has no limit
-pub plain_limit : (q : Query) → is_filtered q ≡ false → q.limit ≡ None
-plain_limit q plain = at (is_some q.range.lower) (is_some q.range.upper) q.limit plain
-  where
-    at : (a b : Bool) (l : Option Limit) → (a || b || is_some l) ≡ false → l ≡ None
-    at a b None e = refl
-    at true b (Some l) e = cc
-    at false true (Some l) e = cc
-    at false false (Some l) e = cc
 
 -- what a query that isn't filtered shows
 pub plain_rows : (q : Query) (t : PathTree) → is_filtered q ≡ false → rows_in_tree q.index t ≡ entries_shown q t

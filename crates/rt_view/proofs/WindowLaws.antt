@@ -3,11 +3,11 @@ use Rattle.std.specs.Prelude.{T}
 use Rattle.std.proofs.Common.{◌≡◌, ℕ, zero, suc, ◌+◌, ◌-◌, ◌<◌, ◌≤◌, Bool, true, false, cond, not, List, [], ◌∷◌, ◌++◌, map, length, take, drop, refl, sym, ap, subst, ◌∙◌, arith, append-nil, append_assoc, length-append, Option, Some, None, is_some, ◌⊎◌, inl, inr}
 use Rattle.std.specs.declared.cmp.Ordering.{Ordering}
 use Rattle.std.specs.declared.cmp.Ordering.TheVariants.{Less, Equal, Greater}
-use Rattle.std.specs.Ordering.{is_lt, is_le, is_eq, eq_by_cmp, match_ordering, ordering_reverse}
+use Rattle.std.specs.Ordering.{is_lt, is_le, is_eq, eq_by_cmp, ordering_reverse}
 use Rattle.std.specs.Cmp.{tied_itself, Equal-is}
 use Rattle.std.specs.List.{AllByRecursion}
 use Rattle.std.specs.Map.{remove_entry, lookup}
-use Rattle.std.specs.BTreeMap.{insert_entry, is_at}
+use Rattle.std.specs.BTreeMap.{is_at}
 use Rattle.std.specs.FinMap as map_of
 use Rattle.std.specs.FinMap.Entries.{by_order, find, is_sorted, below_all, is_sorted-put, is_sorted-where_key, find-put, find-where_key, same_entries}
 use Rattle.std.proofs.lemmas.List.{take_at, take_all, length-take, length-drop, drop_at}
@@ -19,15 +19,6 @@ use Rattle.rt_query.specs.declared.query.Limit.TheVariants.{First, Last}
 use Rattle.rt_query.specs.Select.{row_of}
 use Rattle.rt_view.specs.inside.Windows.{Entries, IsWindow, without, value_at, is_from_first, is_to_last, last_key}
 use Rattle.rt_view.proofs.ReplayLaws.{row_at-cons}
-
-pub insert_entry-put : {X : Type 0} (es : List (Entry × X)) (k : Entry) (v : X) → insert_entry entry_cmp es k v ≡ map_of.put entry_cmp k v es
-insert_entry-put [] k v = refl
-insert_entry-put (e ∷ es) k v =
-    elim (entry_cmp k e.0) as (λ o. match_ordering o ((k, v) ∷ e ∷ es) ((e.0, v) ∷ es) (e ∷ insert_entry entry_cmp es k v) ≡ match_ordering o ((k, v) ∷ e ∷ es) ((e.0, v) ∷ es) (e ∷ map_of.put entry_cmp k v es)) [
-      | Less ↦ refl
-      | Equal ↦ refl
-      | Greater ↦ ap (λ fs. e ∷ fs) (insert_entry-put es k v)
-    ]
 
 abbrev puts : Entry → PathTree → Entries → Entries
 puts e v es = map_of.put entry_cmp e v es

@@ -8,23 +8,19 @@
 #![tactic(auto)]
 
 mod change;
-mod children;
-mod comparison;
 mod difference;
 mod examples;
 mod kinds;
-mod laws;
-mod news;
 mod position;
 mod replay;
+mod seen;
 mod touch;
 mod view;
 mod window;
 
 pub use change::{Batch, Change, ChangeList};
-pub use comparison::changes;
+pub use difference::changes;
 pub use examples::{kind_examples, order_examples, plain_examples, view_examples, window_examples};
 pub use kinds::{Kinds, of_kinds};
-pub use laws::{replay_laws, run_laws, turn_laws};
-pub use replay::apply_changes;
+pub use replay::{apply_changes, replay_laws, run_laws, turn_laws};
 pub use view::{View, ViewError};

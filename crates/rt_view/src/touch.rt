@@ -1,9 +1,8 @@
-// Named children, put into a known tree and its window, or into a tree in the query's order.
-ghost use Rattle.std.specs.Prelude.{◌≡◌, ◌≤◌, ◌∷◌, [], true, false, All, IfOk, OnOk, Some, not, length};
+// Named children, put into a known tree and its window, or into a tree in the query's order; and those that
+// turn one tree into another.
+ghost use Rattle.std.specs.Prelude.{◌≡◌, ◌≤◌, ◌∷◌, [], true, false, All, IfOk, OnOk, Some, IfSome, ◌++◌};
 ghost use Rattle.std.specs.Option.{option_copied};
-ghost use Rattle.std.specs.List.{list_any};
-ghost use Rattle.std.specs.Map.{keys_of};
-ghost use Rattle.rt_tree.specs.PathTree.{PathTree, child_of, levels, put, key_eq};
+ghost use Rattle.rt_tree.specs.PathTree.{PathTree, child_of, levels, put, key_cmp};
 ghost use Rattle.rt_tree.specs.Children.{children_of};
 ghost use Rattle.rt_query.specs.Queries.{is_filtered};
 ghost use Rattle.rt_query.specs.Select.{select, tree_of};
@@ -15,12 +14,16 @@ ghost use Rattle.rt_view.specs.inside.Turns.{Comes, Leaves, Stands, Values};
 ghost use Rattle.rt_view.specs.inside.ViewIndex.{ComesToWord, IsOrdered, IsWindowOf, NameWords, brought_in};
 ghost use Rattle.rt_view.specs.inside.ViewIndex.{rows_in_tree, stands_in, wholly};
 ghost use Rattle.rt_view.specs.inside.Telling.{AllSeen, KeepsSeen, kept_by, left_by, takes_place};
+ghost use Rattle.std.specs.List.Sorted.{IsStrictlySortedBy};
+ghost use Rattle.std.specs.Map.{keys_of};
+ghost use Rattle.rt_view.specs.inside.Differences.{come, differing, gone};
 
-use crate::change::{ChangeList, tell_alone};
-use crate::news::{
-    Seen, copy_tree, in_key_order, note_stands, note_turned, tell_filtered, tell_plain,
+use crate::change::{ChangeList, stays};
+use crate::difference::{
+    ChildRef, Guess, listed, seek_child, tell_alone, tell_filtered, tell_plain,
 };
 use crate::position::{Position, child_at, copy_leaf, put_child};
+use crate::seen::{Seen, copy_tree, in_key_order, note_stands, note_turned};
 use crate::window::{OrderedChildren, Turned};
 use rt_map::OrdMap;
 use rt_order::{Index, sort_value, value_cmp};
@@ -287,52 +290,89 @@ pub fn touch_ordered(
     tell_plain(alloc, query, known, None, seen.as_slice(), leaf.as_ref())
 }
 
-// ---- whether a tree has a child beside the named ones
+// One of so many children is named at most: where more differ, all of them are put in their places anew.
+const CHILDREN_TO_ONE: usize = 4;
 
-// The first place, from one on, at which no key stands that is in front of this one.
-fn place_from(named: &[(Key, Tree)], from: usize, key: &Key) -> usize
-    ensures { result ≤ length named.now }
+// Names the children that are gone: each null.
+fn name_gone(
+    named: &mut Vec<(Key, Tree)>,
+    old: &OrdMap<Key, Tree>,
+    new: &OrdMap<Key, Tree>,
+    list: &[ChildRef<'_>],
+) -> Result<(), AllocError>
+    requires listed { list.now ≡ new.now.entries }
+    requires rises { IsStrictlySortedBy key_cmp (keys_of list.now) }
+    ensures { OnOk result (named.new.items
+        ≡ named.old.items ++ gone old.now.entries new.now.entries) }
 {
-    for at in from..named.len() {
-        if named[at].0 >= *key {
-            return at;
+    let mut guess = Guess::at(0);
+    for (key, _) in old {
+        if seek_child(new, list, &mut guess, key).is_none() {
+            named.push((key.copy()?, Tree::null()))?;
         }
     }
-    named.len()
+    Ok(())
 }
 
-// Whether the key stands at a place.
-fn stands_at(named: &[(Key, Tree)], at: usize, key: &Key) -> bool
-    ensures { result ≡ true → list_any (λ c. key_eq c.0 key.now) named.now ≡ true }
+// Names the children that come, or differ.
+fn name_come(
+    named: &mut Vec<(Key, Tree)>,
+    alloc: Global,
+    old: &OrdMap<Key, Tree>,
+    new: &OrdMap<Key, Tree>,
+    list: &[ChildRef<'_>],
+) -> Result<(), AllocError>
+    requires listed { list.now ≡ old.now.entries }
+    requires rises { IsStrictlySortedBy key_cmp (keys_of list.now) }
+    ensures { OnOk result (named.new.items
+        ≡ named.old.items ++ come old.now.entries new.now.entries) }
 {
-    match named.get(at) {
-        Some(child) => child.0 == *key,
-        None => false,
-    }
-}
-
-// Whether the key is one of the named ones. Keys that are asked for in order are found from the next
-// place on, where the named ones are in order too; what stands there is tested, so any order will do.
-fn is_named(named: &[(Key, Tree)], next: &mut usize, key: &Key) -> bool
-    ensures { result ≡ list_any (λ c. key_eq c.0 key.now) named.now }
-{
-    *next = place_from(named, *next, key);
-    if stands_at(named, *next, key) {
-        return true;
-    }
-    named.iter().any(|child| child.0 == *key)
-}
-
-// Whether one of the children is none of the named ones. It goes over the children until it meets one.
-pub fn has_other(children: &OrdMap<Key, Tree>, named: &[(Key, Tree)]) -> bool
-    ensures { result ≡ list_any (λ k. not (list_any (λ d. key_eq d.0 k) named.now))
-        (keys_of children.now.entries) }
-{
-    let mut next = 0;
-    for key in children.keys() {
-        if !is_named(named, &mut next, key) {
-            return true;
+    let mut guess = Guess::at(0);
+    for (key, tree) in new {
+        if !stays(seek_child(old, list, &mut guess, key), tree) {
+            named.push((key.copy()?, tree.copy(alloc)?))?;
         }
     }
-    false
+    Ok(())
+}
+
+// The named children that turn some children into others.
+fn differing(
+    alloc: Global,
+    old: &OrdMap<Key, Tree>,
+    new: &OrdMap<Key, Tree>,
+) -> Result<Vec<(Key, Tree)>, AllocError>
+    ensures { IfOk result (λ named. named.items ≡ differing old.now.entries new.now.entries) }
+{
+    let olds = listed(alloc, old)?;
+    let news = listed(alloc, new)?;
+    let mut named = Vec::new(alloc);
+    name_gone(&mut named, old, new, news.as_slice())?;
+    name_come(&mut named, alloc, old, new, olds.as_slice())?;
+    Ok(named)
+}
+
+// The named children that turn one tree into the other, where both have children, and few of them
+// differ.
+pub fn few_differing(
+    alloc: Global,
+    old: &Tree,
+    new: &Tree,
+) -> Result<Option<Vec<(Key, Tree)>>, AllocError>
+    ensures turns { IfOk result (λ found. IfSome found (λ named.
+        with_named old.now named.items ≡ new.now)) }
+    ensures fits { IfOk result (λ found. IfSome found (λ named.
+        All (λ c. levels c.1 ≤ MAX_KEYS) named.items)) }
+{
+    let Some(olds) = old.children() else {
+        return Ok(None);
+    };
+    let Some(news) = new.children() else {
+        return Ok(None);
+    };
+    let named = differing(alloc, olds, news)?;
+    if named.len() > news.len() / CHILDREN_TO_ONE {
+        return Ok(None);
+    }
+    Ok(Some(named))
 }

@@ -1,22 +1,25 @@
-// A view, changed child by child.
+// A view, changed child by child, and what it keeps beside its tree.
 ghost use Rattle.std.specs.Prelude.{◌≡◌, ◌≤◌, ◌↔◌, true, All, IfOk, OnOk, OnErr, IsTrue, None, Some, Err};
-ghost use Rattle.std.specs.Option.{option_copied};
-ghost use Rattle.rt_tree.specs.PathTree.{levels};
+ghost use Rattle.std.specs.Prelude.{not, length};
+ghost use Rattle.rt_tree.specs.PathTree.{levels, key_eq};
 ghost use Rattle.rt_query.specs.Select.{select};
 ghost use Rattle.rt_view.specs.Changes.{changes};
 ghost use Rattle.rt_view.specs.Errors.{code_of, name_of};
 ghost use Rattle.rt_view.specs.Views.{first_view, leaves_child, renewed, shown_of, stays_object, told};
 ghost use Rattle.rt_view.specs.Views.{touched, with_named};
+ghost use Rattle.std.specs.Option.{option_copied};
 ghost use Rattle.rt_query.specs.Queries.{is_filtered};
 ghost use Rattle.rt_view.specs.declared.view.ViewIndex.TheVariants.{Ordered};
 ghost use Rattle.rt_view.specs.inside.ViewIndex.{IsKept, NameWords, tree_in, window_in};
+ghost use Rattle.std.specs.List.{list_any};
+ghost use Rattle.std.specs.Map.{keys_of};
 
 use crate::change::ChangeList;
-use crate::comparison::changes;
-use crate::difference::few_differing;
+use crate::difference::changes;
 use crate::position::{copy_leaf, count, is_ordered, name_words, object_of, rows_of, window_of};
-use crate::touch::{has_other, touch_filtered, touch_ordered, touch_plain};
+use crate::touch::{few_differing, touch_filtered, touch_ordered, touch_plain};
 use crate::window::OrderedChildren;
+use rt_map::OrdMap;
 use rt_query::{Query, Shown};
 use rt_tree::{Key, MAX_KEYS, Tree};
 use std::alloc::{AllocError, Global};
@@ -238,8 +241,6 @@ impl View {
     }
 }
 
-// ---- what is kept of a tree beside it, and how it is turned into what is kept of another one
-
 // What is kept of a tree beside it: nothing, where its children stand in the query's order; all of them
 // in order; or with these what a filtered query shows, as a tree of its own.
 #[derive(Drop)]
@@ -413,4 +414,52 @@ pub fn renew_kept(
         return make_anew(known, kept, alloc, query, new);
     };
     touch_kept(known, kept, alloc, query, named.as_slice())
+}
+
+// The first place, from one on, at which no key stands that is in front of this one.
+fn place_from(named: &[(Key, Tree)], from: usize, key: &Key) -> usize
+    ensures { result ≤ length named.now }
+{
+    for at in from..named.len() {
+        if named[at].0 >= *key {
+            return at;
+        }
+    }
+    named.len()
+}
+
+// Whether the key stands at a place.
+fn stands_at(named: &[(Key, Tree)], at: usize, key: &Key) -> bool
+    ensures { result ≡ true → list_any (λ c. key_eq c.0 key.now) named.now ≡ true }
+{
+    match named.get(at) {
+        Some(child) => child.0 == *key,
+        None => false,
+    }
+}
+
+// Whether the key is one of the named ones. Keys that are asked for in order are found from the next
+// place on, where the named ones are in order too; what stands there is tested, so any order will do.
+fn is_named(named: &[(Key, Tree)], next: &mut usize, key: &Key) -> bool
+    ensures { result ≡ list_any (λ c. key_eq c.0 key.now) named.now }
+{
+    *next = place_from(named, *next, key);
+    if stands_at(named, *next, key) {
+        return true;
+    }
+    named.iter().any(|child| child.0 == *key)
+}
+
+// Whether one of the children is none of the named ones. It goes over the children until it meets one.
+pub fn has_other(children: &OrdMap<Key, Tree>, named: &[(Key, Tree)]) -> bool
+    ensures { result ≡ list_any (λ k. not (list_any (λ d. key_eq d.0 k) named.now))
+        (keys_of children.now.entries) }
+{
+    let mut next = 0;
+    for key in children.keys() {
+        if !is_named(named, &mut next, key) {
+            return true;
+        }
+    }
+    false
 }

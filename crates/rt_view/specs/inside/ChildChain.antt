@@ -12,9 +12,8 @@ use Rattle.rt_order.specs.Cuts.{has}
 use Rattle.rt_order.specs.Entries.{Entry, entry_cmp}
 use Rattle.rt_query.specs.declared.row.Row.{Row}
 use Rattle.rt_query.specs.Select.{row_of}
-use Rattle.rt_view.specs.declared.children.Child.{Child}
-use Rattle.rt_view.specs.inside.Halves.{Halved}
-use Rattle.rt_view.specs.inside.Windows.{Entries}
+use Rattle.rt_view.specs.declared.window.Child.{Child}
+use Rattle.rt_view.specs.inside.Ranged.{Entries, Halved, IsSpread}
 
 abbrev pub Linked : Type 0
 Linked = List (Entry × (ℕ × Child))
@@ -25,10 +24,9 @@ children_in es = map (λ e. (e.0, e.1.1.value)) es
 abbrev pub halves_of : Chain Entry Child → Halved
 halves_of c = (children_in c.front, children_in c.behind)
 
--- known children in two halves, and the range whose lower cut they know
-pub record ChildChain : Type 0 where
-  pub from : Range
-  pub halves : Halved
+-- all of them
+abbrev pub linked_in : Chain Entry Child → Entries
+linked_in c = (halves_of c).0 ++ (halves_of c).1
 
 -- a child with the key of its entry, that knows whether this lies above the lower cut
 abbrev pub IsMarked : Range → Entry × (ℕ × Child) → Type 0
@@ -36,6 +34,11 @@ IsMarked from e = (e.1.1.key ≡ e.0.1) × (e.1.1.above ≡ has from e.0)
 
 abbrev pub AllMarked : Range → Chain Entry Child → Type 0
 AllMarked from c = AllByRecursion (IsMarked from) (all_in c)
+
+-- linked children round a range, each of which knows whether it lies above the lower cut
+pub record IsRanged (from to : Range) (c : Chain Entry Child) (low high : ℕ) : Type 0 where
+  pub spread : IsSpread from to (halves_of c) low high
+  pub marks : AllMarked from c
 
 -- children as they are linked, without their slots
 abbrev pub marked : Range → Entries → List (Entry × Child)

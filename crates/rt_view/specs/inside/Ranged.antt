@@ -7,13 +7,20 @@ use Rattle.rt_order.specs.Entries.{Entry}
 use Rattle.rt_order.specs.Cuts.{has}
 use Rattle.rt_query.specs.declared.query.Limit.{Limit}
 use Rattle.rt_query.specs.declared.query.Limit.TheVariants.{First, Last}
-use Rattle.rt_view.specs.inside.Halves.{Halved}
+
+-- children by their entries
+abbrev pub Entries : Type 0
+Entries = List (Entry × PathTree)
+
+-- the children in front of a cut, and those behind it
+abbrev pub Halved : Type 0
+Halved = Entries × Entries
 
 -- the children in a range, and the others
-abbrev pub inside : Range → List (Entry × PathTree) → List (Entry × PathTree)
+abbrev pub inside : Range → Entries → Entries
 inside r es = filter (λ e. has r e.0) es
 
-abbrev pub outside : Range → List (Entry × PathTree) → List (Entry × PathTree)
+abbrev pub outside : Range → Entries → Entries
 outside r es = filter (λ e. not (has r e.0)) es
 
 -- all children in two halves, and a range
@@ -21,11 +28,16 @@ pub record Spread : Type 0 where
   pub range : Range
   pub halves : Halved
 
+-- and with a limit, which shows of those in the range the first or the last
+pub record OrderedChildren : Type 0 where
+  pub limit : Option Limit
+  pub children : Spread
+
 -- in each half the children in the range
 abbrev pub inner : Spread → Halved
 inner s = (inside s.range s.halves.0, inside s.range s.halves.1)
 
-abbrev pub all_known : Spread → List (Entry × PathTree)
+abbrev pub all_known : Spread → Entries
 all_known s = s.halves.0 ++ s.halves.1
 
 -- the range from the lower cut of one to the upper cut of another one

@@ -12,11 +12,11 @@ use Rattle.rt_order.specs.declared.index.Index.{Index}
 use Rattle.rt_order.specs.Entries.{Entry, entry, entry_cmp, sort_value}
 use Rattle.rt_order.specs.Values.{value_cmp}
 use Rattle.rt_query.specs.Queries.{Query}
-use Rattle.rt_view.specs.declared.news.Seen.{Seen}
-use Rattle.rt_view.specs.declared.news.Told.{Told}
+use Rattle.rt_view.specs.declared.seen.Seen.{Seen}
+use Rattle.rt_view.specs.declared.seen.Told.{Told}
 use Rattle.rt_view.specs.declared.window.Turned.{Turned}
 use Rattle.rt_view.specs.declared.change.Change.{Change}
-use Rattle.rt_view.specs.declared.kinds.Kind.{Kind}
+use Rattle.rt_view.specs.declared.change.Kind.{Kind}
 use Rattle.rt_view.specs.inside.Given.{change_of, is_given}
 use Rattle.rt_view.specs.inside.ViewIndex.{Notes, NotesAll, taken_out}
 use Rattle.rt_view.specs.inside.Turns.{Values, shown_if}

@@ -15,10 +15,10 @@ use Rattle.rt_query.specs.Queries.{Query, is_filtered}
 use Rattle.rt_query.specs.Select.{Shown, limited, sorted_by, select, tree_of, row_of}
 use Rattle.rt_view.specs.declared.view.ViewIndex.{ViewIndex}
 use Rattle.rt_view.specs.declared.view.ViewIndex.TheVariants.{Ordered, Plain, Filtered}
-use Rattle.rt_view.specs.declared.window.OrderedChildren.{OrderedChildren}
+use Rattle.rt_view.specs.inside.Ranged.{OrderedChildren}
 use Rattle.rt_view.specs.declared.change.Change.{Change}
 use Rattle.rt_view.specs.declared.change.Change.TheVariants.{Removed}
-use Rattle.rt_view.specs.declared.kinds.Kind.{Kind}
+use Rattle.rt_view.specs.declared.change.Kind.{Kind}
 use Rattle.rt_view.specs.Changes.{row_changes}
 use Rattle.rt_view.specs.inside.Given.{change_of, is_given}
 use Rattle.rt_view.specs.inside.Windows.{Entries, IsWindow, value_at, without, before, known_in, put_inside, rest_in, shown_in}

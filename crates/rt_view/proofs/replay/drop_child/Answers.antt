@@ -1,5 +1,5 @@
 use Rattle.std.proofs.Common.{◌∙◌}
-use Rattle.rt_view.proofs.ChildLists.{remove_entry-without}
+use Rattle.rt_view.proofs.ReplayLaws.{remove_entry-without}
 use Rattle.rt_view.proofs.replay.drop_child.Goals as goal
 
 pub returns-clause-gone : goal.returns-clause-gone

@@ -1,8 +1,0 @@
-use Rattle.std.proofs.lemmas.Result.{IfOk-weaker}
-use Rattle.rt_view.proofs.news.tell_plain.Goals as goal
-
-pub returns : goal.returns
-returns c =
-    IfOk-weaker c.with_value.result _ _
-    (λ list told t seen old. told t (c.in_ok-rows.ensures t seen) old)
-    c.with_value.ensures
