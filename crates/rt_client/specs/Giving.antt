@@ -1,5 +1,5 @@
 -- What a seat is told is given to a thread's work, item by item.
-use Rattle.std.specs.Prelude.{◌≡◌, List, [], ◌++◌, Option, Some, Result, Ok, Err, drop}
+use Rattle.std.specs.Prelude.{◌≡◌, true, List, [], ◌++◌, Option, Some, Result, Ok, Err, drop}
 use Rattle.std.specs.Borrow.{Bor}
 use Rattle.std.specs.Fn.{CalledAt, Mut}
 use Rattle.std.specs.List.{FoldsTo, slice_get}
@@ -7,6 +7,7 @@ use Rattle.rt_mail.specs.declared.item.Item.{Item}
 use Rattle.rt_client.specs.declared.error.ClientError.{ClientError}
 use Rattle.rt_client.specs.Calls.{Seated}
 use Rattle.rt_client.specs.Delivery.{RefusesTurn}
+use Rattle.rt_client.specs.Waiting.{has_none}
 
 -- the seat with other items in its ring
 abbrev pub with_ring : List Item → Seated → Seated
@@ -44,9 +45,11 @@ module _ {F E : Type 0} (g : Mut F (Bor Item × Unit {0}) (Result (Unit {0}) E))
   Gives f old (Ok done) new = GivesAll f old new
   Gives f old (Err why) new = GivesUpTo f old why new
 
-  -- or no more is given: the client has failed, or the seat is closed or another client's
+  -- or all that came is given, and no more comes: the client has failed, or the seat is closed or another
+  -- client's
   pub record RefusesGiving (f : F) (old : Seated) (why : ClientError) (new : Seated) : Type 0 where
     pub last : F
     pub between : Seated
     pub gave : HasGiven f old last between
+    pub all : has_none between.ring.items ≡ true
     pub refused : RefusesTurn between why new

@@ -42,11 +42,11 @@ lost_text o m n why seats now (Err e) same first step h = tt
 
 -- a message was heard
 pub told_text : (o m n taken : List ℕ) (h : ServerEvent) (told : ServerFrame) (seats now : Seats)
-    → h ≡ heard.ServerFrame told → now ≡ seats → m ≡ o ++ taken → PrintsTaken told taken
+    → h ≡ heard.Told told → now ≡ seats → m ≡ o ++ taken → PrintsTaken told taken
     → ((rest : List ℕ) × (n ≡ m ++ rest) × PrintsTold now rest)
     → ((text : List ℕ) × (n ≡ o ++ text) × PrintsHeard h seats text)
 told_text o m n taken h told seats now is same first takes (rest, second, tells) =
-    let all : PrintsHeard (heard.ServerFrame told) seats (taken ++ rest) =
+    let all : PrintsHeard (heard.Told told) seats (taken ++ rest) =
     (taken, rest, takes, subst (λ s. PrintsTold s rest) same tells, refl) in (
       taken ++ rest,
       both o m n taken rest first second,
@@ -109,7 +109,7 @@ lost_at_once r mid new l o m n why seats now is same first step h =
 pub stands_so : {E L : Type 0} (r : Result Bool E) (h : ServerEvent) (old new : Option L) (l : L) → old ≡ Some l
     → IfOk r (λ s. s ≡ goes_on h) → OnOk r (new ≡ (if goes_on h then old else None))
     → IfOk r (λ s. s ≡ is_some new)
-stands_so (Ok s) (heard.ServerFrame told) old new l is stands left = stands ∙ sym (ap is_some (left ∙ is))
+stands_so (Ok s) (heard.Told told) old new l is stands left = stands ∙ sym (ap is_some (left ∙ is))
 stands_so (Ok s) (heard.Ended why) old new l is stands left = stands ∙ sym (ap is_some left)
 stands_so (Err e) h old new l is stands left = tt
 

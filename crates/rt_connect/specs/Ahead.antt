@@ -122,5 +122,5 @@ noted_of (Text words) a = noted (server_message words) a
 noted_of Binary a = a
 
 abbrev pub heard_by : ServerEvent → ReadAhead → ReadAhead
-heard_by (heard.ServerFrame t) a = noted_of t a
+heard_by (heard.Told t) a = noted_of t a
 heard_by (Ended why) a = a

@@ -43,12 +43,12 @@ PrintsLost seats text =
 
 -- whether the connection stands once that was heard
 abbrev pub goes_on : ServerEvent → Bool
-goes_on (heard.ServerFrame told) = true
+goes_on (heard.Told told) = true
 goes_on (Ended why) = false
 
 -- what was heard is taken: a message, and then the seats are told; or the connection is gone
 abbrev pub PrintsHeard : ServerEvent → Seats → List ℕ → Type 0
-PrintsHeard (heard.ServerFrame told) seats text =
+PrintsHeard (heard.Told told) seats text =
     (taken rest : List ℕ) × PrintsTaken told taken × PrintsTold seats rest × (text ≡ taken ++ rest)
 PrintsHeard (Ended why) seats text = PrintsLost seats text
 
