@@ -5,7 +5,7 @@
 -- it), Printing (what is printed of a client), Answers (what is answered by what), Ahead (how far the server
 -- is behind, and what was read ahead), Sending (what is sent, and what is read ahead before it), Telling
 -- (what each seat is told of what waits for it), Driving (what is printed of a client behind a lock), Run
--- (how many lines of an input are bad).
+-- (how many lines of an input are bad, and what a run over an input leaves).
 pub mod Ahead
 pub mod Answers
 pub mod Doing

@@ -14,7 +14,7 @@ ghost use Rattle.rt_connect.specs.Doing.{disconnected};
 ghost use Rattle.rt_connect.specs.Driving.{DoesOrder, HasSent, PrintsHeard, PrintsLost, PrintsStep};
 ghost use Rattle.rt_connect.specs.Driving.{PrintsTaken, PrintsTold, goes_on};
 ghost use Rattle.rt_connect.specs.Ending.{Ends, end_text};
-ghost use Rattle.rt_connect.specs.Run.{bad_among};
+ghost use Rattle.rt_connect.specs.Run.{Drives, bad_among};
 ghost use Rattle.rt_connect.specs.Sending.{linked};
 ghost use Rattle.rt_world.specs.declared.step.Step.TheVariants as step;
 
@@ -498,16 +498,10 @@ pub fn drive_logged<
     requires bytes { I.given reader.old ≤ 2 ^ 63 }
     requires reads { I.failures reader.old + 1 < 2 ^ 64 }
     requires writes { D.failures writer.old + 1 < 2 ^ 64 }
-    ensures end { OnOk result (IsAtEnd (I.remaining reader.new)) }
-    ensures counted { IfOk result (λ bad_lines. (text : List ℕ) → I.remaining reader.old ≡ Some text
-        → bad_lines ≡ bad_among (lines_of text)) }
-    ensures within { OnOk result (I.given reader.new ≤ I.given reader.old + most_input) }
-    ensures ok { OnOk result (NoneFailed
+    ensures { Drives result
         (counts (I.given reader.old) (I.failures reader.old) (D.failures writer.old))
-        (counts (I.given reader.new) (I.failures reader.new) (D.failures writer.new))) }
-    ensures fault { IfErr result (λ e. Tells e
-        (counts (I.given reader.old) (I.failures reader.old) (D.failures writer.old))
-        (counts (I.given reader.new) (I.failures reader.new) (D.failures writer.new))) }
+        (counts (I.given reader.new) (I.failures reader.new) (D.failures writer.new))
+        (I.remaining reader.old) (I.remaining reader.new) }
 {
     wait_by_ticks(&stream);
     let address = format!(in alloc; "ws://127.0.0.1:{port}/")?;
@@ -557,16 +551,10 @@ pub fn drive<R: Wait, N: RandomSource + Drop, S: Read + Write + Drop, I: Source,
     requires bytes { I.given reader.old ≤ 2 ^ 63 }
     requires reads { I.failures reader.old + 1 < 2 ^ 64 }
     requires writes { D.failures writer.old + 1 < 2 ^ 64 }
-    ensures end { OnOk result (IsAtEnd (I.remaining reader.new)) }
-    ensures counted { IfOk result (λ bad_lines. (text : List ℕ) → I.remaining reader.old ≡ Some text
-        → bad_lines ≡ bad_among (lines_of text)) }
-    ensures within { OnOk result (I.given reader.new ≤ I.given reader.old + most_input) }
-    ensures ok { OnOk result (NoneFailed
+    ensures { Drives result
         (counts (I.given reader.old) (I.failures reader.old) (D.failures writer.old))
-        (counts (I.given reader.new) (I.failures reader.new) (D.failures writer.new))) }
-    ensures fault { IfErr result (λ e. Tells e
-        (counts (I.given reader.old) (I.failures reader.old) (D.failures writer.old))
-        (counts (I.given reader.new) (I.failures reader.new) (D.failures writer.new))) }
+        (counts (I.given reader.new) (I.failures reader.new) (D.failures writer.new))
+        (I.remaining reader.old) (I.remaining reader.new) }
 {
     let opened = opened(alloc, random, "ws://127.0.0.1/", stream)?;
     drive_over(

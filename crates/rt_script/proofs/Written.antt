@@ -1,12 +1,14 @@
 -- What lines print, which is written in pieces.
-use Rattle.std.proofs.Common.{◌≡◌, ℕ, List, [], ◌∷◌, ◌++◌, Bool, true, false, cond, Option, Some, None, Result, Ok, Err, IfOk, OnOk, OnErr, string_bytes, refl, sym, ap, subst, ◌∙◌, append-nil, append_assoc}
-use Rattle.std.specs.Io.KnownBytes.{Appends}
-use Rattle.rt_input.specs.Lines.{lines_of}
+use Rattle.std.proofs.Common.{◌≡◌, ℕ, List, [], ◌∷◌, ◌++◌, ◌+◌, ◌≤◌, Bool, true, false, cond, Option, Some, None, Result, Ok, Err, IfOk, IfErr, OnOk, OnErr, rules, string_bytes, refl, sym, ap, subst, ◌∙◌, append-nil, append_assoc}
+use Rattle.std.specs.Io.KnownBytes.{Appends, IsAtEnd}
+use Rattle.rt_input.specs.declared.fault.ConsoleError.{ConsoleError}
+use Rattle.rt_input.specs.Faults.{Counts, NoneFailed, Tells}
+use Rattle.rt_input.specs.Lines.{lines_of, most_input}
 use Rattle.rt_input.specs.Streams.{AppendsPart}
 use Rattle.rt_script.specs.State.{State}
 use Rattle.rt_script.specs.Doing.{bytes_done, is_good}
 use Rattle.rt_script.specs.declared.script.Script.{Script}
-use Rattle.rt_script.specs.Run.{Progress, Ran, after_line, after_lines, one_more, start}
+use Rattle.rt_script.specs.Run.{Progress, Ran, RunsScript, after_line, after_lines, one_more, run_of, start}
 use Rattle.rt_script.specs.inside.Pieces.{Begins, PrintsFirst, Runs, so_far}
 
 -- ---- answers
@@ -209,3 +211,13 @@ counts-good false n m k e f = cc
 pub counts-bad : (good : Bool) (n m k : ℕ) → good ≡ false → n ≡ k → n ≡ cond good m k
 counts-bad true n m k e f = cc
 counts-bad false n m k e f = f
+
+-- ---- a run that is told whole
+
+pub runs_script : (r : Result ℕ ConsoleError) (was now : Counts) (given left old new : Option (List ℕ))
+    → OnOk r (IsAtEnd left)
+    → IfOk r (λ n. (text : List ℕ) → given ≡ Some text → Ran text n old new)
+    → OnErr r ((text : List ℕ) → given ≡ Some text → AppendsPart old new (run_of text).printed)
+    → OnOk r (now.given ≤ was.given + most_input) → IfErr r (λ e. Tells e was now) → OnOk r (NoneFailed was now)
+    → RunsScript r was now given left old new
+runs_script r was now given left old new end ran first within fault ok = search rules

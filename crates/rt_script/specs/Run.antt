@@ -1,9 +1,13 @@
 -- A run of a script: its lines are done one after another, numbered from 1, on a new core and a
 -- source of push ids that has given none.
-use Rattle.std.specs.Prelude.{◌≡◌, ℕ, ◌+◌, ◌-◌, ◌^◌, min, if◌then◌else◌, List, [], ◌∷◌, ◌++◌}
-use Rattle.std.specs.Prelude.{Option}
-use Rattle.std.specs.Io.KnownBytes.{Appends}
-use Rattle.rt_input.specs.Lines.{lines_of}
+use Rattle.std.specs.Prelude.{◌≡◌, ℕ, ◌+◌, ◌-◌, ◌^◌, ◌<◌, ◌≤◌, ◌⊎◌, min, if◌then◌else◌, List, [], ◌∷◌, ◌++◌}
+use Rattle.std.specs.Prelude.{Option, Some, Result, IfOk, OnOk, OnErr, IsErrOf}
+use Rattle.std.specs.Io.KnownBytes.{Appends, IsAtEnd}
+use Rattle.rt_input.specs.declared.fault.ConsoleError.{ConsoleError}
+use Rattle.rt_input.specs.declared.fault.ConsoleError.TheVariants.{ReadFault, WriteFault, BadWords, NoMemory}
+use Rattle.rt_input.specs.Faults.{Counts}
+use Rattle.rt_input.specs.Lines.{lines_of, most_input}
+use Rattle.rt_input.specs.Streams.{AppendsPart}
 use Rattle.rt_world.specs.World.{limits_from, full_limits}
 use Rattle.rt_script.specs.State.{State, new_state}
 use Rattle.rt_script.specs.Doing.{bytes_done, is_good}
@@ -53,3 +57,21 @@ run_of text = after_lines (lines_of text) start
 pub record Ran (text : List ℕ) (bad_lines : ℕ) (old new : Option (List ℕ)) : Type 0 where
   pub counted : bad_lines ≡ (run_of text).bad_lines
   pub written : Appends old new (run_of text).printed
+
+-- a script was run that a reader gave: what reader and writer count before and after it, what the reader had to
+-- give before and after it, and the bytes of the writer before and after it
+pub record RunsScript (answer : Result ℕ ConsoleError) (was now : Counts) (given left old new : Option (List ℕ)) : Type 0 where
+  pub end : OnOk answer (IsAtEnd left)
+  pub ran : IfOk answer (λ bad_lines. (text : List ℕ) → given ≡ Some text → Ran text bad_lines old new)
+  pub within : OnOk answer (now.given ≤ was.given + most_input)
+  pub no_failed_read : OnOk answer (now.failed_reads ≡ was.failed_reads)
+  pub no_failed_write : OnOk answer (now.failed_writes ≡ was.failed_writes)
+  pub read_fault : IsErrOf answer ReadFault
+      → (was.failed_reads < now.failed_reads) ⊎ (was.given + most_input < now.given)
+  pub write_fault : IsErrOf answer WriteFault → was.failed_writes < now.failed_writes
+  pub failed_read : was.failed_reads < now.failed_reads → IsErrOf answer ReadFault
+  pub never : IsErrOf answer BadWords → ⊥
+  pub no_memory : IsErrOf answer NoMemory
+      → (now.failed_reads ≡ was.failed_reads) × (now.failed_writes ≡ was.failed_writes)
+  pub failed_write : was.failed_writes < now.failed_writes → IsErrOf answer WriteFault
+  pub first : OnErr answer ((text : List ℕ) → given ≡ Some text → AppendsPart old new (run_of text).printed)

@@ -1,11 +1,11 @@
 // A run of a script.
-ghost use Rattle.std.specs.Prelude.{◌≡◌, ◌+◌, ◌<◌, ◌≤◌, ◌^◌, ◌⊎◌, ◌∷◌, [], ℕ, List, Some, string_bytes, IfOk};
-ghost use Rattle.std.specs.Prelude.{IfErr, OnOk, OnErr, IsErrOf};
+ghost use Rattle.std.specs.Prelude.{◌≡◌, ◌+◌, ◌<◌, ◌≤◌, ◌^◌, ◌∷◌, [], ℕ, List, Some, string_bytes, IfOk};
+ghost use Rattle.std.specs.Prelude.{IfErr, OnOk, OnErr};
 ghost use Rattle.std.specs.Io.KnownBytes.{Appends, IsAtEnd};
 ghost use Rattle.rt_input.specs.Faults.{counts, NoneFailed, Tells, WriteTells};
 ghost use Rattle.rt_input.specs.Lines.{lines_of, most_input};
 ghost use Rattle.rt_input.specs.Streams.{AppendsPart};
-ghost use Rattle.rt_script.specs.Run.{after_line, after_lines, Ran, run_of, start};
+ghost use Rattle.rt_script.specs.Run.{after_line, after_lines, RunsScript, start};
 ghost use Rattle.rt_script.specs.inside.Pieces.{Begins, PrintsFirst, Runs, so_far};
 ghost use Rattle.rt_world.specs.World.{limits_from};
 ghost use Rattle.rt_script.specs.State.{new_state};
@@ -221,27 +221,10 @@ pub fn run_logged<S: Source, D: Drain, L: Log>(
     requires bytes { S.given reader.old ≤ 2 ^ 63 }
     requires reads { S.failures reader.old + 1 < 2 ^ 64 }
     requires writes { D.failures writer.old + 1 < 2 ^ 64 }
-    ensures end { OnOk result (IsAtEnd (S.remaining reader.new)) }
-    ensures ran { IfOk result (λ bad_lines. (text : List ℕ) → S.remaining reader.old ≡ Some text
-        → Ran text bad_lines (D.contents writer.old) (D.contents writer.new)) }
-    ensures within { OnOk result (S.given reader.new ≤ S.given reader.old + most_input) }
-    ensures no_failed_read { OnOk result (S.failures reader.new ≡ S.failures reader.old) }
-    ensures no_failed_write { OnOk result (D.failures writer.new ≡ D.failures writer.old) }
-    ensures read_fault { IsErrOf result ConsoleError.ReadFault
-        → (S.failures reader.old < S.failures reader.new)
-        ⊎ (S.given reader.old + most_input < S.given reader.new) }
-    ensures write_fault { IsErrOf result ConsoleError.WriteFault
-        → D.failures writer.old < D.failures writer.new }
-    ensures failed_read { S.failures reader.old < S.failures reader.new
-        → IsErrOf result ConsoleError.ReadFault }
-    ensures never { IsErrOf result ConsoleError.BadWords → ⊥ }
-    ensures no_memory { IsErrOf result ConsoleError.NoMemory
-        → (S.failures reader.new ≡ S.failures reader.old)
-        × (D.failures writer.new ≡ D.failures writer.old) }
-    ensures failed_write { D.failures writer.old < D.failures writer.new
-        → IsErrOf result ConsoleError.WriteFault }
-    ensures first { OnErr result ((text : List ℕ) → S.remaining reader.old ≡ Some text
-        → AppendsPart (D.contents writer.old) (D.contents writer.new) (run_of text).printed) }
+    ensures { RunsScript result
+        (counts (S.given reader.old) (S.failures reader.old) (D.failures writer.old))
+        (counts (S.given reader.new) (S.failures reader.new) (D.failures writer.new))
+        (S.remaining reader.old) (S.remaining reader.new) (D.contents writer.old) (D.contents writer.new) }
 {
     Script::new(alloc).run(reader, writer, log)
 }
@@ -263,27 +246,10 @@ pub fn run_script<S: Source, D: Drain>(
     requires bytes { S.given reader.old ≤ 2 ^ 63 }
     requires reads { S.failures reader.old + 1 < 2 ^ 64 }
     requires writes { D.failures writer.old + 1 < 2 ^ 64 }
-    ensures end { OnOk result (IsAtEnd (S.remaining reader.new)) }
-    ensures ran { IfOk result (λ bad_lines. (text : List ℕ) → S.remaining reader.old ≡ Some text
-        → Ran text bad_lines (D.contents writer.old) (D.contents writer.new)) }
-    ensures within { OnOk result (S.given reader.new ≤ S.given reader.old + most_input) }
-    ensures no_failed_read { OnOk result (S.failures reader.new ≡ S.failures reader.old) }
-    ensures no_failed_write { OnOk result (D.failures writer.new ≡ D.failures writer.old) }
-    ensures read_fault { IsErrOf result ConsoleError.ReadFault
-        → (S.failures reader.old < S.failures reader.new)
-        ⊎ (S.given reader.old + most_input < S.given reader.new) }
-    ensures write_fault { IsErrOf result ConsoleError.WriteFault
-        → D.failures writer.old < D.failures writer.new }
-    ensures failed_read { S.failures reader.old < S.failures reader.new
-        → IsErrOf result ConsoleError.ReadFault }
-    ensures never { IsErrOf result ConsoleError.BadWords → ⊥ }
-    ensures no_memory { IsErrOf result ConsoleError.NoMemory
-        → (S.failures reader.new ≡ S.failures reader.old)
-        × (D.failures writer.new ≡ D.failures writer.old) }
-    ensures failed_write { D.failures writer.old < D.failures writer.new
-        → IsErrOf result ConsoleError.WriteFault }
-    ensures first { OnErr result ((text : List ℕ) → S.remaining reader.old ≡ Some text
-        → AppendsPart (D.contents writer.old) (D.contents writer.new) (run_of text).printed) }
+    ensures { RunsScript result
+        (counts (S.given reader.old) (S.failures reader.old) (D.failures writer.old))
+        (counts (S.given reader.new) (S.failures reader.new) (D.failures writer.new))
+        (S.remaining reader.old) (S.remaining reader.new) (D.contents writer.old) (D.contents writer.new) }
 {
     run_logged(alloc, reader, writer, &mut Silent)
 }

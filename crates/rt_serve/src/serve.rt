@@ -8,7 +8,7 @@ ghost use Rattle.rt_peer.specs.Runs.{after_all};
 ghost use Rattle.rt_input.specs.Counted.{known_output};
 ghost use Rattle.rt_serve.specs.Answers.{Tells, told, IsAnswer, own};
 ghost use Rattle.rt_serve.specs.Reads.{calls_of, ended_by, is_over};
-ghost use Rattle.rt_serve.specs.Sessions.{call_of, HasServed, HasTaken, ServedIf};
+ghost use Rattle.rt_serve.specs.Sessions.{call_of, HasServed, HasTaken, ServedIf, ServedOrNot, ServesStream};
 ghost use Rattle.rt_serve.specs.Handshakes.{is_done};
 ghost use Rattle.rt_serve.specs.laws.Sessions.{SessionsLeaveConnections};
 ghost use Rattle.rt_serve.specs.Errors.{code_of, name_of};
@@ -238,11 +238,8 @@ pub fn serve_logged<S: Read + Write + Drop, L: Log>(
     stream: S,
     log: &mut L,
 ) -> Result<bool, ServeError>
-    ensures served { IfSome peer.old (λ p. IfOk result (λ shook. ServedIf shook p peer.new)) }
-    ensures failed { IfSome peer.old (λ p.
-        OnErr result ((peer.new ≡ None) ⊎ (peer.new ≡ peer.old) ⊎ HasServed p peer.new)) }
-    ensures lost { peer.old ≡ None → (peer.new ≡ None) × IfOk result (λ shook. shook ≡ false) }
-    ensures memory { IfErr result (λ e. IfSome peer.old (λ _. e ≡ ServeError.NoMemory)) }
+    ensures leaves { ServesStream ServedIf result peer.old peer.new }
+    ensures lost { peer.old ≡ None → IfOk result (λ shook. shook ≡ false) }
 {
     let handshake = shake_hands(alloc, stream, MAX_MESSAGE_BYTES)?;
     serve_handshake(alloc, peer, handshake, log)
@@ -271,12 +268,7 @@ pub fn serve_stream<S: Read + Write + Drop>(
     peer: &mut Peer,
     stream: S,
 ) -> Result<(), ServeError>
-    ensures served { IfSome peer.old (λ p.
-        OnOk result ((peer.new ≡ peer.old) ⊎ HasServed p peer.new)) }
-    ensures failed { IfSome peer.old (λ p.
-        OnErr result ((peer.new ≡ None) ⊎ (peer.new ≡ peer.old) ⊎ HasServed p peer.new)) }
-    ensures lost { peer.old ≡ None → peer.new ≡ None }
-    ensures memory { IfErr result (λ e. IfSome peer.old (λ _. e ≡ ServeError.NoMemory)) }
+    ensures { ServesStream ServedOrNot result peer.old peer.new }
 {
     serve_logged(alloc, peer, stream, &mut Silent)?;
     Ok(())
