@@ -46,6 +46,8 @@ class Walk(unittest.TestCase):
             ("std::vec::Vec::push::<rt_low::key::Key>", False),
             ("rt_low::Destruct++tuple2::drop::<#0be029b66d2ccbac>", False),
             ("rt_low::laws::steady_law", False),
+            ("rt_low::map::fn::find::partition_point", False),
+            ("rt_low::map::fn::find::partition_point+FnMut::call_mut::<#0be029b66d2ccbac>", False),
         ):
             self.assertEqual(walk.is_counted(name, {"rt_low"}), counts, name)
 
