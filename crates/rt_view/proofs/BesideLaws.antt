@@ -1,25 +1,27 @@
 -- All children that are known, and those beside the range.
 use Rattle.std.specs.Prelude.{T}
-use Rattle.std.proofs.Common.{◌≡◌, ℕ, true, false, cond, not, [], ◌∷◌, ◌++◌, refl, sym, ap, subst, ◌∙◌, Option, Some, None, is_some}
+use Rattle.std.proofs.Common.{◌≡◌, ℕ, true, false, cond, not, [], ◌∷◌, ◌++◌, refl, sym, ap, subst, ◌∙◌, Option, Some, is_some}
 use Rattle.std.specs.List.{AllByRecursion, filter}
 use Rattle.std.specs.FinMap as map_of
 use Rattle.std.specs.FinMap.Entries.{is_sorted}
 use Rattle.std.specs.Map.{lookup, remove_entry}
 use Rattle.std.specs.BTreeMap.{is_at}
 use Rattle.std.specs.Ordering.{eq_by_cmp}
+use Rattle.rt_chain.specs.declared.chain.Half.{Half}
+use Rattle.rt_chain.specs.declared.chain.Half.TheVariants.{Front, Behind}
 use Rattle.rt_tree.specs.PathTree.{Key, PathTree, child_of, put}
 use Rattle.rt_tree.specs.Children.{children_of}
 use Rattle.rt_order.specs.declared.cut.Range.{Range}
 use Rattle.rt_order.specs.Cuts.{has}
 use Rattle.rt_order.specs.Entries.{Entry, entry, entry_cmp}
 use Rattle.rt_query.specs.declared.query.Limit.{Limit}
-use Rattle.rt_query.specs.declared.query.Limit.TheVariants.{First, Last}
 use Rattle.rt_query.specs.Queries.{Query}
 use Rattle.rt_query.specs.Select.{sorted_by}
 use Rattle.rt_view.specs.inside.ViewIndex.{IsWindowOf, brought_in, in_order, taken_out, wholly}
 use Rattle.rt_view.specs.inside.Ranged.{Halved, OrderedChildren, inner, inside}
 use Rattle.rt_view.specs.inside.Telling.{left_by, takes_place}
-use Rattle.rt_view.specs.inside.Windows.{Becomes, Entries, IsWhole, IsWindow, all_of, is_over, is_there, joined, known_in, put_inside, rest_from, rest_in, shown_from, shown_in, without}
+use Rattle.rt_view.specs.inside.Windows.{Becomes, Entries, IsWhole, IsWindow, all_of, half_in, half_of, is_over, is_there, joined, known_in, put_inside, rest_from, rest_in, shown_from, shown_in, without}
+use Rattle.rt_view.proofs.HalfLaws.{has_both}
 use Rattle.rt_view.proofs.Listed.{listed-in_order}
 use Rattle.rt_view.proofs.TouchLaws.{left_same, touched_order}
 use Rattle.rt_view.proofs.WindowLaws.{remove_entry-without, same_entry}
@@ -43,12 +45,9 @@ inside_both r (x ∷ es) ds h g = (h.0, inside_both r es ds h.1 g)
 
 -- what a window has in its range
 pub all_inside : (w : OrderedChildren) → Inside w.children.range (all_of w)
-all_inside w = at w.limit
-  where
-    at : (l : Option Limit) → Inside w.children.range (joined l (shown_from l (inner w.children)) (rest_from l (inner w.children)))
-    at None = inside_both w.children.range _ _ (is_inside w.children.range w.children.halves.0) (is_inside w.children.range w.children.halves.1)
-    at (Some (First n)) = inside_both w.children.range _ _ (is_inside w.children.range w.children.halves.0) (is_inside w.children.range w.children.halves.1)
-    at (Some (Last n)) = inside_both w.children.range _ _ (is_inside w.children.range w.children.halves.0) (is_inside w.children.range w.children.halves.1)
+all_inside w =
+    subst (Inside w.children.range) (sym (has_both w.limit (inner w.children)))
+    (inside_both w.children.range _ _ (is_inside w.children.range w.children.halves.0) (is_inside w.children.range w.children.halves.1))
 
 module _ (r : Range) (e : Entry) (beside : has r e ≡ false) where
   other_entry : (x : Entry) → has r x ≡ true → eq_by_cmp entry_cmp e x ≡ false
@@ -68,12 +67,11 @@ module _ (r : Range) (e : Entry) (beside : has r e ≡ false) where
 
 -- what a window shows
 pub there_beside : (w : OrderedChildren) (e : Entry) → has w.children.range e ≡ false → is_there e (shown_in w) ≡ false
-there_beside w e beside = at w.limit
+there_beside w e beside = at (half_of w.limit)
   where
-    at : (l : Option Limit) → is_there e (shown_from l (inner w.children)) ≡ false
-    at None = there-beside w.children.range e beside _ (is_inside w.children.range w.children.halves.0)
-    at (Some (First n)) = there-beside w.children.range e beside _ (is_inside w.children.range w.children.halves.0)
-    at (Some (Last n)) = there-beside w.children.range e beside _ (is_inside w.children.range w.children.halves.1)
+    at : (h : Half) → is_there e (half_in h (inner w.children)) ≡ false
+    at Front = there-beside w.children.range e beside _ (is_inside w.children.range w.children.halves.0)
+    at Behind = there-beside w.children.range e beside _ (is_inside w.children.range w.children.halves.1)
 
 pub inside_is : (r : Range) (e : Entry) (v : PathTree) (es : Entries) → has r e ≡ true → map_of.put entry_cmp e v es ≡ put_inside r e v es
 inside_is r e v es h = sym (ap (λ b. cond b (map_of.put entry_cmp e v es) es) h)

@@ -1,13 +1,11 @@
 -- What a window shows under each key once a child was put or taken out.
-use Rattle.std.specs.Prelude.{T, IfOk, IfSome, Result, Ok, Err}
-use Rattle.std.proofs.Common.{◌≡◌, ℕ, append-nil, Bool, true, false, cond, not, ◌&&◌, [], ◌∷◌, ◌++◌, refl, sym, ap, subst, ◌∙◌, Option, Some, None, is_some}
-use Rattle.std.specs.Ordering.{is_eq, is_lt, eq_by_cmp}
+use Rattle.std.specs.Prelude.{IfOk, IfSome, Result, Ok, Err}
+use Rattle.std.proofs.Common.{◌≡◌, Bool, true, false, cond, not, ◌&&◌, refl, sym, ap, subst, ◌∙◌, Option, Some, None, is_some}
+use Rattle.std.specs.Ordering.{is_eq, eq_by_cmp}
 use Rattle.std.specs.Cmp.{tied_itself, Equal-is}
 use Rattle.std.specs.FinMap as map_of
-use Rattle.std.specs.FinMap.Entries.{find, is_sorted, below_all, is_sorted-put}
-use Rattle.std.specs.Map.{lookup}
-use Rattle.std.specs.BTreeMap.{is_at}
-use Rattle.rt_tree.specs.PathTree.{Key, PathTree, first, second, key_eq, key_eq-is, key_eq-same, key_eq-symm, is_null, child_of}
+use Rattle.std.specs.FinMap.Entries.{find}
+use Rattle.rt_tree.specs.PathTree.{Key, PathTree, first, key_eq, key_eq-is, key_eq-same, key_eq-symm, is_null, child_of}
 use Rattle.rt_tree.specs.Children.{children_of}
 use Rattle.rt_order.specs.Entries.{Entry, entry, entry_cmp, sort_value}
 use Rattle.rt_order.specs.Values.{value_cmp}
@@ -15,18 +13,16 @@ use Rattle.rt_order.specs.declared.index.Index.{Index}
 use Rattle.rt_order.specs.Cuts.{has}
 use Rattle.rt_order.specs.laws.EntryOrder.{entry_cmp_total, value_cmp-IsAntisymmetric}
 use Rattle.rt_query.specs.Queries.{Query}
-use Rattle.rt_query.specs.declared.query.Limit.{Limit}
-use Rattle.rt_query.specs.declared.query.Limit.TheVariants.{First, Last}
 use Rattle.rt_view.specs.declared.window.Turned.{Turned}
 use Rattle.rt_view.specs.inside.Ranged.{OrderedChildren}
-use Rattle.rt_view.specs.inside.Windows.{Entries, IsWindow, is_from_first, is_there, is_to_last, joined, value_at, without, rest_in, shown_in}
+use Rattle.rt_view.specs.inside.Windows.{Entries, IsWindow, is_there, joined, value_at, without, rest_in, shown_in}
 use Rattle.rt_view.specs.inside.ViewIndex.{IsWindowOf, in_order, taken_out}
 use Rattle.rt_view.specs.inside.Telling.{left_by, takes_place}
 use Rattle.rt_view.specs.inside.Turns.{Comes, Leaves, Refilled, Refills, Spilled, SpilledBy, Spills, Stands, set_at}
-use Rattle.rt_view.proofs.Listed.{IsListed, Once, passing, at_entry, find-value_at, apart_keys, listed-filter, value_at-filter, listed-puts, value_at-puts_all, value_at-in_order, listed-in_order, listed-shown, value_at-cons, none_head, Own, own-left, once-left}
+use Rattle.rt_view.proofs.Listed.{IsParted, parted, IsListed, passing, at_entry, find-value_at, listed-filter, listed-puts, value_at-puts_all, value_at-in_order, listed-in_order}
 use Rattle.rt_view.proofs.Orderings.{find_lookup}
-use Rattle.rt_view.proofs.TouchLaws.{HasAt, cond_twice}
-use Rattle.rt_view.proofs.WindowLaws.{Above, above_head, above_shown, below_after, below_of, parts_rise, puts-without, same_entry, without-above, without-append, without-below}
+use Rattle.rt_view.proofs.TouchLaws.{HasAt, StandsAt, cond_twice, left_here}
+use Rattle.rt_view.proofs.WindowLaws.{puts-without, same_entry}
 
 -- ---- one entry more, or less
 
@@ -43,36 +39,6 @@ at_found index e v (Some x) h =
 
 pub found_at : (index : Index) (e : Entry) (v : PathTree) (es : Entries) → IsListed index es → find entry_cmp e es ≡ Some v → (value_at es e.1 ≡ Some v) × (e ≡ entry index (e.1, v))
 found_at index e v es h is = at_found index e v (value_at es e.1) (sym (find-value_at index es h.own h.once e) ∙ is)
-
--- what stands under a key stands at this entry, if anything does
-abbrev StandsAt : Index → Key → Entry → Entries → Type 0
-StandsAt index k e es = (x : PathTree) → value_at es k ≡ Some x → entry index (k, x) ≡ e
-
-module _ (index : Index) (k : Key) (e : Entry) (own : e.1 ≡ k) where
-  gone_there : (o : Option PathTree) → ((x : PathTree) → o ≡ Some x → entry index (k, x) ≡ e) → passing (λ x. not (eq_by_cmp entry_cmp e x)) index k o ≡ None
-  gone_there None g = refl
-  gone_there (Some x) g =
-      ap (λ (z : Entry). cond (not (eq_by_cmp entry_cmp e z)) (Some x) None) (g x refl)
-      ∙ ap (λ o. cond (not (is_eq o)) (Some x) None) (tied_itself entry_cmp_total e)
-
-  still_there : (j : Key) (o : Option PathTree) → key_eq k j ≡ false → passing (λ x. not (eq_by_cmp entry_cmp e x)) index j o ≡ o
-  still_there j None n = refl
-  still_there j (Some v) n =
-      ap (λ b. cond (not b) (Some v) None) (apart_keys e (entry index (j, v)) (ap (key_eq j) own ∙ key_eq-symm j k ∙ n))
-
-  pub left_here : (es : Entries) → IsListed index es → StandsAt index k e es → HasAt index es k None (without e es)
-  left_here es h stands = record {
-    listed = listed-filter (λ x. not (eq_by_cmp entry_cmp e x)) index es h;
-    value = λ j. value_at-filter (λ x. not (eq_by_cmp entry_cmp e x)) index es h j ∙ at j;
-  }
-    where
-      at : (j : Key) → passing (λ x. not (eq_by_cmp entry_cmp e x)) index j (value_at es j) ≡ cond (key_eq k j) None (value_at es j)
-      at j = elim (key_eq k j) as (λ b. key_eq k j ≡ b → passing (λ x. not (eq_by_cmp entry_cmp e x)) index j (value_at es j) ≡ cond b None (value_at es j)) [
-        | true ↦ λ s.
-            let same = key_eq-is k j s in
-            ap (λ (i : Key). passing (λ x. not (eq_by_cmp entry_cmp e x)) index i (value_at es i)) (sym same) ∙ gone_there (value_at es k) stands
-        | false ↦ λ s. still_there j (value_at es j) s
-      ] refl
 
 pub put_here : (index : Index) (k : Key) (v : PathTree) (es : Entries) → IsListed index es → StandsAt index k (entry index (k, v)) es
     → HasAt index es k (Some v) (map_of.put entry_cmp (entry index (k, v)) v es)
@@ -191,68 +157,8 @@ passing_some p index k (Some v) x h =
 -- what is shown is known, and in the range
 pub shown_known : (q : Query) (t : PathTree) (w : OrderedChildren) (k : Key) (x : PathTree) → IsWindowOf q t w → value_at (shown_in w) k ≡ Some x → (child_of (children_of t) k ≡ Some x) × (has q.range (entry q.index (k, x)) ≡ true)
 shown_known q t w k x h is =
-    let up = (parts_rise q.limit (shown_in w) (rest_in w) _ h.cut).0 in
-    let shown = listed-shown q.index q.limit (shown_in w) (rest_in w) _ h.cut (listed-in_order q t) up in
-    passing_some (has q.range) q.index k (child_of (children_of t) k) x (sym (value_at-in_order q t k) ∙ shown.1 k x is)
-
--- nothing stands under one key in both of two parts
-apart_left : (s r : Entries) (k : Key) (v : PathTree) → Once (s ++ r) → value_at r k ≡ Some v → value_at s k ≡ None
-apart_left [] r k v once h = refl
-apart_left (x ∷ s) r k v once h =
-    value_at-cons x s k ∙ elim (key_eq x.0.1 k) as (λ b. key_eq x.0.1 k ≡ b → cond b (Some x.1) (value_at s k) ≡ None) [
-      | true ↦ λ t. cc (ap (value_at (s ++ r)) (key_eq-is x.0.1 k t), once.0, behind s once.1)
-      | false ↦ λ t. apart_left s r k v once.1 h
-    ] refl
-  where
-    behind : (s : Entries) → Once (s ++ r) → value_at (s ++ r) k ≡ Some v
-    behind [] o = h
-    behind (y ∷ s) o =
-        value_at-cons y (s ++ r) k ∙ elim (key_eq y.0.1 k) as (λ b. key_eq y.0.1 k ≡ b → cond b (Some y.1) (value_at (s ++ r) k) ≡ Some v) [
-          | true ↦ λ t. cc (ap (value_at (s ++ r)) (key_eq-is y.0.1 k t), o.0, behind s o.1)
-          | false ↦ λ t. behind s o.1
-        ] refl
-
-apart_right : (r s : Entries) (k : Key) (v : PathTree) → Once (r ++ s) → value_at r k ≡ Some v → value_at s k ≡ None
-apart_right [] s k v once h = cc
-apart_right (x ∷ r) s k v once h =
-    elim (key_eq x.0.1 k) as (λ b. key_eq x.0.1 k ≡ b → cond b (Some x.1) (value_at r k) ≡ Some v → value_at s k ≡ None) [
-      | true ↦ λ t g. none_behind r (ap (value_at (r ++ s)) (sym (key_eq-is x.0.1 k t)) ∙ once.0)
-      | false ↦ λ t g. apart_right r s k v once.1 g
-    ] refl (sym (value_at-cons x r k) ∙ h)
-  where
-    none_behind : (r : Entries) → value_at (r ++ s) k ≡ None → value_at s k ≡ None
-    none_behind [] n = n
-    none_behind (y ∷ r) n = none_behind r ((none_head y (r ++ s) k n).1)
-
--- the parts of a window: both are listed, and a key that stands in the rest isn't shown
-record IsParted (index : Index) (s r : Entries) : Type 0 where
-  shown : IsListed index s
-  rest : IsListed index r
-  apart : (k : Key) (v : PathTree) → value_at r k ≡ Some v → value_at s k ≡ None
-
-parted_append : (index : Index) (s r : Entries) → T (is_sorted entry_cmp s) → T (is_sorted entry_cmp r) → Own index (s ++ r) → Once (s ++ r)
-    → IsListed index s × IsListed index r
-parted_append index s r up_s up_r own once = (
-  record { rises = up_s; own = (own-left index s r own).0; once = (once-left s r once).0 },
-  record { rises = up_r; own = (own-left index s r own).1; once = (once-left s r once).1 },
-)
-
-parted : (index : Index) (limit : Option Limit) (s r all : Entries) → IsWindow limit s r all → IsListed index all → IsParted index s r
-parted index limit s r all w h =
-    let up = parts_rise limit s r all w in
-    at limit up.0 up.1 (subst (Own index) (sym w.whole) h.own) (subst Once (sym w.whole) h.once)
-  where
-    ahead : T (is_sorted entry_cmp s) → T (is_sorted entry_cmp r) → Own index (s ++ r) → Once (s ++ r) → IsParted index s r
-    ahead up_s up_r own once =
-        let both = parted_append index s r up_s up_r own once in
-        record { shown = both.0; rest = both.1; apart = λ k v g. apart_left s r k v once g }
-
-    at : (l : Option Limit) → T (is_sorted entry_cmp s) → T (is_sorted entry_cmp r) → Own index (joined l s r) → Once (joined l s r) → IsParted index s r
-    at None up_s up_r own once = ahead up_s up_r own once
-    at (Some (First n)) up_s up_r own once = ahead up_s up_r own once
-    at (Some (Last n)) up_s up_r own once =
-        let both = parted_append index r s up_r up_s own once in
-        record { shown = both.1; rest = both.0; apart = λ k v g. apart_right r s k v once g }
+    let parts = parted q.index q.limit (shown_in w) (rest_in w) _ h.cut (listed-in_order q t) in
+    passing_some (has q.range) q.index k (child_of (children_of t) k) x (sym (value_at-in_order q t k) ∙ parts.among k x is)
 
 -- nothing is told of what stays in place
 pub leaves_still : (q : Query) (k : Key) (o : Option PathTree) (new : PathTree) (es : Entries) → Stands q k new es → Leaves q k o new false None es es
@@ -285,7 +191,7 @@ module _ (q : Query) (u : PathTree) (w : OrderedChildren) (k : Key) (h : IsWindo
     here : StandsAt q.index k (entry q.index (k, t)) (shown_in w)
     here x g = let same : x ≡ t = cc (is, (shown_known q u w k x h g).0) in ap (λ (y : PathTree). entry q.index (k, y)) same
 
-    parts : IsParted q.index (shown_in w) (rest_in w)
+    parts : IsParted q.index (shown_in w) (rest_in w) (in_order q (children_of u))
     parts = parted q.index q.limit (shown_in w) (rest_in w) _ h.cut (listed-in_order q u)
 
     left : HasAt q.index (shown_in w) k None (without (entry q.index (k, t)) (shown_in w))
@@ -364,50 +270,3 @@ listed_left q t k o v a b h cut =
             | false ↦ g
           ]
         ]
-
--- ---- the cut
-
-missed_above : (e : Entry) (s : Entries) → Above e s → is_there e s ≡ false
-missed_above e [] h = refl
-missed_above e (x ∷ s) h = ap (λ o. is_some (cond (is_eq o) (Some x.1) (lookup (is_at (entry_cmp e)) s))) h.0 ∙ missed_above e s h.1
-
-missed_below : (e : Entry) (s : Entries) → T (below_all entry_cmp e s) → is_there e s ≡ false
-missed_below e [] h = refl
-missed_below e (x ∷ s) h =
-    ap (λ o. is_some (cond (is_eq o) (Some x.1) (lookup (is_at (entry_cmp e)) s))) (below_of e x.0 (first _ _ h))
-    ∙ missed_below e s (second (is_lt (entry_cmp e x.0)) _ h)
-
--- a child that goes to the rest isn't shown
-pub beyond_first : (n : ℕ) (e : Entry) (s r all : Entries) → IsWindow (Some (First n)) s r all → is_from_first r e ≡ true → is_there e s ≡ false
-beyond_first n e s [] all w h = cc
-beyond_first n e s (x ∷ r) all w h = missed_above e s (above_shown e s x r (subst (λ es. T (is_sorted entry_cmp es)) (sym w.whole) w.rises) h)
-
-pub beyond_last : (n : ℕ) (e : Entry) (s r all : Entries) → IsWindow (Some (Last n)) s r all → is_to_last r e ≡ true → is_there e s ≡ false
-beyond_last n e s r all w h = missed_below e s (below_after e r s (subst (λ es. T (is_sorted entry_cmp es)) (sym w.whole) w.rises) h)
-
-gone_own : (p : Entry × PathTree) (es : Entries) → without p.0 (p ∷ es) ≡ without p.0 es
-gone_own p es = ap (λ o. cond (not (is_eq o)) (p ∷ without p.0 es) (without p.0 es)) (tied_itself entry_cmp_total p.0)
-
--- the last one, or the first one, crosses
-pub spills_last : (all t : Entries) (p : Entry × PathTree) (k : Key) → T (is_sorted entry_cmp all) → all ≡ t ++ p ∷ [] → lookup (is_at (entry_cmp p.0)) all ≡ Some p.1 → k ≡ p.0.1
-    → Spilled (Some (k, p.1)) all t
-spills_last all t p k up is there same = (
-  p.0,
-  sym same,
-  sym (find_lookup all p.0) ∙ there,
-  sym (ap (without p.0) is ∙ without-append p.0 t (p ∷ [])
-      ∙ (λ i. without-above p.0 t (above_head t p [] (subst (λ es. T (is_sorted entry_cmp es)) is up)) i ++ gone_own p [] i) ∙ append-nil t),
-)
-
-pub spills_first : (all t : Entries) (p : Entry × PathTree) (k : Key) → T (is_sorted entry_cmp all) → all ≡ p ∷ t → lookup (is_at (entry_cmp p.0)) all ≡ Some p.1 → k ≡ p.0.1
-    → Spilled (Some (k, p.1)) all t
-spills_first all t p k up is there same = (
-  p.0,
-  sym same,
-  sym (find_lookup all p.0) ∙ there,
-  sym (ap (without p.0) is ∙ gone_own p t ∙ without-below p.0 t (first _ _ (subst (λ es. T (is_sorted entry_cmp es)) is up))),
-)
-
--- what is shown rises with one child more
-pub shown_rises : (limit : Option Limit) (e : Entry) (v : PathTree) (s r : Entries) → IsWindow limit s r (joined limit s r) → T (is_sorted entry_cmp (map_of.put entry_cmp e v s))
-shown_rises limit e v s r w = is_sorted-put entry_cmp entry_cmp_total e v s (parts_rise limit s r (joined limit s r) w).0

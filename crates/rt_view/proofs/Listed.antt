@@ -1,6 +1,5 @@
 -- Entries of children in order: each child stands at its own entry, and no key stands twice. What such a list holds under each
 -- key says all of it.
-use Rattle.std.specs.Prelude.{T}
 use Rattle.std.proofs.Common.{◌≡◌, ◌-◌, Bool, true, false, cond, List, [], ◌∷◌, ◌++◌, append-nil, drop, length, map, take, refl, sym, ap, subst, ◌∙◌, Option, Some, None}
 use Rattle.std.specs.declared.cmp.Ordering.TheVariants.{Less, Equal, Greater}
 use Rattle.std.specs.Ordering.{is_eq, eq_by_cmp}
@@ -10,7 +9,7 @@ use Rattle.std.specs.List.{AllByRecursion, filter}
 use Rattle.std.specs.List.Sorted.{IsStrictlySortedBy}
 use Rattle.std.proofs.lemmas.List.{take-append-drop}
 use Rattle.std.specs.FinMap as map_of
-use Rattle.std.specs.FinMap.Entries.{by_order, find, is_sorted, is_sorted-put, is_sorted-where_key, find-put, same_entries}
+use Rattle.std.specs.FinMap.Entries.{by_order, find, is_sorted-put, is_sorted-where_key, find-put, same_entries}
 use Rattle.rt_tree.specs.PathTree.{Key, PathTree, key_cmp, key_eq, key_eq-is, key_eq-same, key_eq-symm, child_of}
 use Rattle.rt_tree.specs.Children.{children_of, children_sorted}
 use Rattle.rt_order.specs.Entries.{Entry, entry, entry_cmp}
@@ -240,12 +239,27 @@ value_at-in_order q t k =
 
 -- ---- those within the limit
 
+-- the first of two values
+abbrev or_else : Option PathTree → Option PathTree → Option PathTree
+or_else None o = o
+or_else (Some v) o = Some v
+
+value_at-append : (s r : Entries) (k : Key) → value_at (s ++ r) k ≡ or_else (value_at s k) (value_at r k)
+value_at-append [] r k = refl
+value_at-append (x ∷ s) r k =
+    value_at-cons x (s ++ r) k ∙ ap (cond (key_eq x.0.1 k) (Some x.1)) (value_at-append s r k)
+    ∙ elim (key_eq x.0.1 k) as (λ b. cond b (Some x.1) (or_else (value_at s k) (value_at r k)) ≡ or_else (cond b (Some x.1) (value_at s k)) (value_at r k)) [
+      | true ↦ refl
+      | false ↦ refl
+    ]
+    ∙ ap (λ o. or_else o (value_at r k)) (sym (value_at-cons x s k))
+
 none_left : (s r : Entries) (k : Key) → value_at (s ++ r) k ≡ None → (value_at s k ≡ None) × (value_at r k ≡ None)
-none_left [] r k h = (refl, h)
-none_left (x ∷ s) r k h =
-    let parts = none_head x (s ++ r) k h in
-    let rest = none_left s r k parts.1 in
-    (value_at-skip x s k parts.0 ∙ rest.0, rest.1)
+none_left s r k h = neither (value_at s k) (value_at r k) (sym (value_at-append s r k) ∙ h)
+  where
+    neither : (a b : Option PathTree) → or_else a b ≡ None → (a ≡ None) × (b ≡ None)
+    neither None b e = (refl, e)
+    neither (Some v) b e = cc
 
 pub own-left : (index : Index) (s r : Entries) → Own index (s ++ r) → Own index s × Own index r
 own-left index [] r h = (tt, h)
@@ -255,34 +269,49 @@ pub once-left : (s r : Entries) → Once (s ++ r) → Once s × Once r
 once-left [] r h = (tt, h)
 once-left (x ∷ s) r h = let rest = once-left s r h.1 in (((none_left s r x.0.1 h.0).0, rest.0), rest.1)
 
--- what is under a key in one of two parts
-in_left : (s r : Entries) (k : Key) (v : PathTree) → value_at s k ≡ Some v → value_at (s ++ r) k ≡ Some v
-in_left [] r k v h = cc
-in_left (x ∷ s) r k v h =
-    value_at-cons x (s ++ r) k ∙ elim (key_eq x.0.1 k) as (λ b. cond b (Some x.1) (value_at s k) ≡ Some v → cond b (Some x.1) (value_at (s ++ r) k) ≡ Some v) [
-      | true ↦ λ g. g
-      | false ↦ λ g. in_left s r k v g
-    ] (sym (value_at-cons x s k) ∙ h)
+-- nothing stands under one key in both of two parts
+once_apart : (s r : Entries) (k : Key) (v : PathTree) → Once (s ++ r) → value_at s k ≡ Some v → value_at r k ≡ None
+once_apart [] r k v once h = cc
+once_apart (x ∷ s) r k v once h =
+    elim (key_eq x.0.1 k) as (λ b. key_eq x.0.1 k ≡ b → cond b (Some x.1) (value_at s k) ≡ Some v → value_at r k ≡ None) [
+      | true ↦ λ t g. (none_left s r k (ap (value_at (s ++ r)) (sym (key_eq-is x.0.1 k t)) ∙ once.0)).1
+      | false ↦ λ t g. once_apart s r k v once.1 g
+    ] refl (sym (value_at-cons x s k) ∙ h)
 
-in_right : (s r : Entries) (k : Key) (v : PathTree) → Once (s ++ r) → value_at r k ≡ Some v → value_at (s ++ r) k ≡ Some v
-in_right [] r k v once h = h
-in_right (x ∷ s) r k v once h =
-    let rest = in_right s r k v once.1 h in
-    value_at-cons x (s ++ r) k ∙ elim (key_eq x.0.1 k) as (λ b. key_eq x.0.1 k ≡ b → cond b (Some x.1) (value_at (s ++ r) k) ≡ Some v) [
-      | true ↦ λ t. cc (rest, ap (value_at (s ++ r)) (key_eq-is x.0.1 k t), once.0)
-      | false ↦ λ t. rest
-    ] refl
-
--- what is shown of the children in a range, and what is under a key there
-pub listed-shown : (index : Index) (limit : Option Limit) (s r all : Entries) → IsWindow limit s r all → IsListed index all → T (is_sorted entry_cmp s) → IsListed index s × ((k : Key) (v : PathTree) → value_at s k ≡ Some v → value_at all k ≡ Some v)
-listed-shown index limit s r all w h up =
-    at limit (subst (Own index) (sym w.whole) h.own) (subst Once (sym w.whole) h.once) (λ k v e. ap (λ (es : Entries). value_at es k) (sym w.whole) ∙ e)
+apart_once : (s r : Entries) (k : Key) (v : PathTree) → Once (s ++ r) → value_at r k ≡ Some v → value_at s k ≡ None
+apart_once s r k v once h = at (value_at s k) refl
   where
-    at : (l : Option Limit) → Own index (joined l s r) → Once (joined l s r) → ((k : Key) (v : PathTree) → value_at (joined l s r) k ≡ Some v → value_at all k ≡ Some v)
-        → IsListed index s × ((k : Key) (v : PathTree) → value_at s k ≡ Some v → value_at all k ≡ Some v)
-    at None own once up_to = (record { rises = up; own = (own-left index s r own).0; once = (once-left s r once).0 }, λ k v e. up_to k v (in_left s r k v e))
-    at (Some (First n)) own once up_to = (record { rises = up; own = (own-left index s r own).0; once = (once-left s r once).0 }, λ k v e. up_to k v (in_left s r k v e))
-    at (Some (Last n)) own once up_to = (record { rises = up; own = (own-left index r s own).1; once = (once-left r s once).1 }, λ k v e. up_to k v (in_right r s k v once e))
+    at : (o : Option PathTree) → value_at s k ≡ o → o ≡ None
+    at None e = refl
+    at (Some w) e = cc (once_apart s r k w once e, h)
+
+-- the parts of a window: both are listed, a key that stands in the rest isn't shown, and what is shown is one of all
+pub record IsParted (index : Index) (s r all : Entries) : Type 0 where
+  pub shown : IsListed index s
+  pub rest : IsListed index r
+  pub apart : (k : Key) (v : PathTree) → value_at r k ≡ Some v → value_at s k ≡ None
+  pub among : (k : Key) (v : PathTree) → value_at s k ≡ Some v → value_at all k ≡ Some v
+
+pub parted : (index : Index) (limit : Option Limit) (s r all : Entries) → IsWindow limit s r all → IsListed index all → IsParted index s r all
+parted index limit s r all w h = at limit (subst (Own index) (sym w.whole) h.own) (subst Once (sym w.whole) h.once) (λ k. ap (λ (es : Entries). value_at es k) w.whole)
+  where
+    ahead : Own index (s ++ r) → Once (s ++ r) → ((k : Key) → value_at (s ++ r) k ≡ value_at all k) → IsParted index s r all
+    ahead own once same = record {
+      shown = record { rises = (parts_rise limit s r all w).0; own = (own-left index s r own).0; once = (once-left s r once).0 };
+      rest = record { rises = (parts_rise limit s r all w).1; own = (own-left index s r own).1; once = (once-left s r once).1 };
+      apart = λ k v e. apart_once s r k v once e;
+      among = λ k v e. sym (same k) ∙ value_at-append s r k ∙ ap (λ o. or_else o (value_at r k)) e;
+    }
+
+    at : (l : Option Limit) → Own index (joined l s r) → Once (joined l s r) → ((k : Key) → value_at (joined l s r) k ≡ value_at all k) → IsParted index s r all
+    at None own once same = ahead own once same
+    at (Some (First n)) own once same = ahead own once same
+    at (Some (Last n)) own once same = record {
+      shown = record { rises = (parts_rise limit s r all w).0; own = (own-left index r s own).1; once = (once-left r s once).1 };
+      rest = record { rises = (parts_rise limit s r all w).1; own = (own-left index r s own).0; once = (once-left r s once).0 };
+      apart = λ k v e. once_apart r s k v once e;
+      among = λ k v e. sym (same k) ∙ value_at-append r s k ∙ ap (λ o. or_else o (value_at s k)) (apart_once r s k v once e) ∙ e;
+    }
 
 -- those that a limit doesn't show
 abbrev left_out : Option Limit → Entries → Entries
@@ -301,7 +330,7 @@ listed-entries q t =
     let all = in_order q (children_of t) in
     let listed = listed-in_order q t in
     let cut : IsWindow q.limit (entries_shown q t) (left_out q.limit all) all = record { rises = listed.rises; whole = both_parts q.limit all; cut = refl } in
-    (listed-shown q.index q.limit _ _ all cut listed (parts_rise q.limit _ _ all cut).0).0
+    (parted q.index q.limit _ _ all cut listed).shown
 
 pub listed-window : (q : Query) (t : PathTree) (w : OrderedChildren) → IsWindowOf q t w → IsListed q.index (shown_in w)
 listed-window q t w h = subst (IsListed q.index) h.cut.cut (listed-entries q t)

@@ -9,7 +9,7 @@ use Rattle.std.specs.Option.{option_map_or}
 use Rattle.std.specs.FinMap as map_of
 use Rattle.std.specs.FinMap.Entries.{by_order, is_sorted, is_sorted-where_key, below_all}
 use Rattle.std.proofs.lemmas.List.Elements.{filter-append}
-use Rattle.rt_chain.specs.Chains.{half_between}
+use Rattle.rt_chain.specs.Chains.{half_between, is_half}
 use Rattle.rt_chain.specs.declared.chain.Half.{Half}
 use Rattle.rt_chain.specs.declared.chain.Half.TheVariants.{Front, Behind}
 use Rattle.rt_tree.specs.PathTree.{Key, PathTree, first, second}
@@ -104,13 +104,6 @@ not_under p up d e at off =
       | false ↦ λ t. refl
     ] refl
 
-not_over : (p : Entry → Bool) → Falls p → (d e : Entry) → p d ≡ false → p e ≡ true → is_le (entry_cmp d e) ≡ false
-not_over p down d e off at =
-    elim (is_le (entry_cmp d e)) as (λ b. is_le (entry_cmp d e) ≡ b → b ≡ false) [
-      | true ↦ λ t. let no : true ≡ false = sym (falls_le p down d e t at) ∙ off in cc
-      | false ↦ λ t. refl
-    ] refl
-
 head_less : (x y : Entry × PathTree) (es : Entries) → T (is_sorted entry_cmp (x ∷ y ∷ es)) → entry_cmp x.0 y.0 ≡ Less
 head_less x y es h = below_of x.0 y.0 (first _ _ (first (below_all entry_cmp x.0 (y ∷ es)) _ h))
 
@@ -160,31 +153,6 @@ behind_inside from to f t (x ∷ es) h =
 
 -- ---- where an entry comes to stand
 
-last_passed : (p : Entry → Bool) → Rises p → (e : Entry) → p e ≡ true → (es : Entries) → T (is_sorted entry_cmp es) → is_to_last (passed p es) e ≡ is_to_last es e
-last_passed p up e is [] h = refl
-last_passed p up e is (x ∷ []) h =
-    elim (p x.0) as (λ b. p x.0 ≡ b → is_to_last (cond b (x ∷ []) []) e ≡ is_le (entry_cmp e x.0)) [
-      | true ↦ λ t. refl
-      | false ↦ λ t. sym (not_under p up e x.0 is t)
-    ] refl
-last_passed p up e is (x ∷ y ∷ es) h =
-    let rest = last_passed p up e is (y ∷ es) (sorted_more x (y ∷ es) h) in
-    elim (p x.0) as (λ b. p x.0 ≡ b → is_to_last (cond b (x ∷ passed p (y ∷ es)) (passed p (y ∷ es))) e ≡ is_to_last (y ∷ es) e) [
-      | true ↦ λ t.
-          let next : p y.0 ≡ true = up x.0 y.0 (head_less x y es h) t in
-          let here : passed p (y ∷ es) ≡ y ∷ passed p es = ap (λ b. cond b (y ∷ passed p es) (passed p es)) next in
-          ap (λ (xs : Entries). is_to_last (x ∷ xs) e) here ∙ ap (λ (xs : Entries). is_to_last xs e) (sym here) ∙ rest
-      | false ↦ λ t. rest
-    ] refl
-
-first_passed : (p : Entry → Bool) → Falls p → (e : Entry) → p e ≡ true → (es : Entries) → T (is_sorted entry_cmp es) → is_from_first (passed p es) e ≡ is_from_first es e
-first_passed p down e is [] h = refl
-first_passed p down e is (x ∷ es) h =
-    elim (p x.0) as (λ b. p x.0 ≡ b → is_from_first (cond b (x ∷ passed p es) (passed p es)) e ≡ is_le (entry_cmp x.0 e)) [
-      | true ↦ λ t. refl
-      | false ↦ λ t. ap (λ (xs : Entries). is_from_first xs e) (none_passed p down x.0 t es (head_below x es h)) ∙ sym (not_over p down x.0 e t is)
-    ] refl
-
 -- a low child lies below all that stand behind
 low_first : (p : Entry → Bool) → Rises p → (e : Entry) → p e ≡ false → (es : Entries) → AllByRecursion (λ x. p x.0 ≡ true) es → is_from_first es e ≡ false
 low_first p up e off [] h = refl
@@ -216,6 +184,16 @@ goes_behind : (a b : Bool) → a ≡ false → half_between a b Behind ≡ Behin
 goes_behind true b h = cc
 goes_behind false true h = refl
 goes_behind false false h = refl
+
+behind_first : (a b : Bool) → Behind ≡ half_between a b Front → b ≡ true
+behind_first true b e = cc
+behind_first false true e = refl
+behind_first false false e = cc
+
+front_last : (a b : Bool) → Front ≡ half_between a b Behind → a ≡ true
+front_last true b e = refl
+front_last false true e = cc
+front_last false false e = cc
 
 -- ---- all children of a half, when one is put or taken out
 
@@ -508,12 +486,36 @@ module _ (from to : Range) (c : Halved) (low high : ℕ) (s : IsSpread from to c
     mid_puts v Front rise at q = (ap (inside (between from to)) q.0 ∙ inside-puts (between from to) e v c.0 (sorted-left c.0 c.1 rise) (is_in true at), ap (inside (between from to)) q.1)
     mid_puts v Behind rise at q = (ap (inside (between from to)) q.0, ap (inside (between from to)) q.1 ∙ inside-puts (between from to) e v c.1 (sorted-right c.0 c.1 rise) (is_in true at))
 
-    pub mid_half : (at_cut : Half) → T (is_sorted entry_cmp (c.0 ++ c.1)) → (has from e && has to e) ≡ true → half_at e at_cut c ≡ half_at e at_cut (inner_of from to c)
-    mid_half at_cut rise at =
-        let both = both_of (has from e) (has to e) at in
-        let front : is_to_last (inside (between from to) c.0) e ≡ is_to_last c.0 e = ap (λ (es : Entries). is_to_last es e) in_front ∙ last_passed (has from) up e both.0 c.0 (sorted-left c.0 c.1 rise) in
-        let behind : is_from_first (inside (between from to) c.1) e ≡ is_from_first c.1 e = ap (λ (es : Entries). is_from_first es e) in_behind ∙ first_passed (has to) down e both.1 c.1 (sorted-right c.0 c.1 rise) in
-        sym (λ i. half_between (front i) (behind i) at_cut)
+    -- a child that lands in another half than the one that is named finds one of the range there
+    some_behind : (es : Entries) → IsBehind from es → has to e ≡ true → is_from_first es e ≡ true → 1 ≤ length (inside (between from to) es)
+    some_behind [] h at f = cc
+    some_behind (x ∷ es) h at f =
+        let is : has (between from to) x.0 ≡ true = is_between from to s.from_only s.to_only x.0 h.0 (falls_le (has to) down x.0 e f at) in
+        subst (λ b. 1 ≤ length (cond b (x ∷ inside (between from to) es) (inside (between from to) es))) (sym is) (omega arith)
+
+    some_front : (es : Entries) → IsFront from to es → has from e ≡ true → is_to_last es e ≡ true → 1 ≤ length (inside (between from to) es)
+    some_front [] h at f = cc
+    some_front (x ∷ []) h at f =
+        let above : has from x.0 ≡ true = rises_le (has from) up e x.0 f at in
+        let is : has (between from to) x.0 ≡ true = is_between from to s.from_only s.to_only x.0 above (under_of (has from x.0) (has to x.0) h.0 above) in
+        subst (λ b. 1 ≤ length (cond b (x ∷ []) (inside (between from to) []))) (sym is) (omega arith)
+    some_front (x ∷ y ∷ es) h at f =
+        elim (has (between from to) x.0) as (λ b. 1 ≤ length (cond b (x ∷ inside (between from to) (y ∷ es)) (inside (between from to) (y ∷ es)))) [
+          | true ↦ omega arith
+          | false ↦ some_front (y ∷ es) h.1 at f
+        ]
+
+    pub mid_full : (at_cut h : Half) → (has from e && has to e) ≡ true → h ≡ half_at e at_cut c → is_half at_cut (Some h) ≡ false → 1 ≤ length (half_in h (inner_of from to c))
+    mid_full Front Front at is off = cc
+    mid_full Front Behind at is off = some_behind c.1 s.behind (both_of (has from e) (has to e) at).1 (behind_first (is_to_last c.0 e) (is_from_first c.1 e) is)
+    mid_full Behind Front at is off = some_front c.0 s.front (both_of (has from e) (has to e) at).0 (front_last (is_to_last c.0 e) (is_from_first c.1 e) is)
+    mid_full Behind Behind at is off = cc
+
+    -- all of the range, with it
+    pub mid_whole : (v : PathTree) → T (is_sorted entry_cmp (c.0 ++ c.1)) → (has from e && has to e) ≡ true → d.0 ++ d.1 ≡ puts e v (c.0 ++ c.1)
+        → inside (between from to) d.0 ++ inside (between from to) d.1 ≡ puts e v (inside (between from to) c.0 ++ inside (between from to) c.1)
+    mid_whole v rise at whole =
+        sym (inside-append (between from to) d.0 d.1) ∙ ap (inside (between from to)) whole ∙ inside-puts (between from to) e v (c.0 ++ c.1) rise (is_in true at) ∙ ap (puts e v) (inside-append (between from to) c.0 c.1)
 
     pub mid_there : (h : Half) → (has from e && has to e) ≡ true → is_there e (half_in h c) ≡ is_there e (half_in h (inner_of from to c))
     mid_there Front at = sym (inside-there (between from to) e c.0 (is_in true at))

@@ -28,8 +28,9 @@ use Rattle.rt_view.specs.inside.ViewIndex.{is_noted, Notes, noted_in, gone_at, g
 use Rattle.rt_view.specs.declared.seen.Seen.{Seen}
 use Rattle.rt_view.specs.declared.seen.Told.{Told}
 use Rattle.rt_view.specs.inside.Telling.{given_of, gone_too, keys_in, told_in, told_of, told_too}
-use Rattle.rt_view.proofs.Listed.{IsListed, Once, same_listed, passing, listed-filter, value_at-filter, listed-puts, value_at-puts_all, puts_there, value_at-cons, value_at-children}
-use Rattle.rt_view.proofs.WindowLaws.{above_head, below_of, last_key-push}
+use Rattle.rt_view.proofs.Listed.{IsListed, same_listed, passing, listed-filter, value_at-filter, listed-puts, value_at-puts_all, puts_there, value_at-children}
+use Rattle.rt_view.proofs.WindowLaws.{above_head, below_of, last_key-push, sorted-right}
+use Rattle.rt_view.proofs.TurnLaws.{Finds, finds_itself}
 use Rattle.rt_view.proofs.TouchLaws.{is_noted-push}
 
 -- ---- those of some keys
@@ -103,15 +104,15 @@ note_own ks k = is_noted-push ks k k ∙ or_there (is_noted ks k) (key_eq k k) (
 
 -- ---- the rows that are noted, one key after another
 
+nothing : (o : Option PathTree) → o ≡ None → (a b : Bool) → cond a o None ≡ cond b o None
+nothing o none true true = refl
+nothing o none true false = none
+nothing o none false true = sym none
+nothing o none false false = refl
+
 pub noted_none : (index : Index) (ks : List Key) (k : Key) (es : Entries) → IsListed index es → value_at es k ≡ None → noted_in ks es ≡ noted_in (ks ++ k ∷ []) es
 noted_none index ks k es h none =
-    where_still (is_noted ks) (is_noted (ks ++ k ∷ [])) k (note_other ks k) index es h (nothing (is_noted ks k) (is_noted (ks ++ k ∷ []) k))
-  where
-    nothing : (a b : Bool) → cond a (value_at es k) None ≡ cond b (value_at es k) None
-    nothing true true = refl
-    nothing true false = none
-    nothing false true = sym none
-    nothing false false = refl
+    where_still (is_noted ks) (is_noted (ks ++ k ∷ [])) k (note_other ks k) index es h (nothing (value_at es k) none (is_noted ks k) (is_noted (ks ++ k ∷ []) k))
 
 pub noted_some : (index : Index) (ks : List Key) (k : Key) (v : PathTree) (es : Entries) → IsListed index es → value_at es k ≡ Some v → map_of.put entry_cmp (entry index (k, v)) v (noted_in ks es) ≡ noted_in (ks ++ k ∷ []) es
 noted_some index ks k v es h there = where_more (is_noted ks) (is_noted (ks ++ k ∷ [])) k (note_other ks k) index v es h there (note_own ks k)
@@ -142,13 +143,7 @@ gone_still index ks k new old h there =
 pub gone_none : (index : Index) (ks : List Key) (k : Key) (new old : Entries) → IsListed index old → value_at old k ≡ None → gone_from ks new old ≡ gone_from (ks ++ k ∷ []) new old
 unfolding is_gone
 gone_none index ks k new old h none =
-    where_still (is_gone ks new) (is_gone (ks ++ k ∷ []) new) k (gone_other ks new k) index old h (nothing (is_gone ks new k) (is_gone (ks ++ k ∷ []) new k))
-  where
-    nothing : (a b : Bool) → cond a (value_at old k) None ≡ cond b (value_at old k) None
-    nothing true true = refl
-    nothing true false = none
-    nothing false true = sym none
-    nothing false false = refl
+    where_still (is_gone ks new) (is_gone (ks ++ k ∷ []) new) k (gone_other ks new k) index old h (nothing (value_at old k) none (is_gone ks new k) (is_gone (ks ++ k ∷ []) new k))
 
 -- it was, and is no more
 pub gone_some : (index : Index) (ks : List Key) (k : Key) (v : PathTree) (new old : Entries) → IsListed index old → value_at new k ≡ None → value_at old k ≡ Some v
@@ -270,16 +265,12 @@ all_below e (x ∷ s) r h =
     ap (λ o. cond (not (is_le o)) (x ∷ filter (λ y. not (is_le (entry_cmp e y.0))) (s ++ r)) (filter (λ y. not (is_le (entry_cmp e y.0))) (s ++ r))) h.0
     ∙ ap (λ es. x ∷ es) (all_below e s r h.1)
 
-sorted_right : (s r : Entries) → T (is_sorted entry_cmp (s ++ r)) → T (is_sorted entry_cmp r)
-sorted_right [] r h = h
-sorted_right (x ∷ s) r h = sorted_right s r (second (below_all entry_cmp x.0 (s ++ r)) _ h)
-
 -- the child before one in a list that rises
 pub before-at : (s : Entries) (x : Entry × PathTree) (r : Entries) → T (is_sorted entry_cmp (s ++ x ∷ r)) → before x.0 (s ++ x ∷ r) ≡ last_key s
 before-at s x r h =
     let own : filter (λ y. not (is_le (entry_cmp x.0 y.0))) (x ∷ r) ≡ [] =
     ap (λ o. cond (not (is_le o)) (x ∷ filter (λ y. not (is_le (entry_cmp x.0 y.0))) r) (filter (λ y. not (is_le (entry_cmp x.0 y.0))) r)) (tied_itself entry_cmp_total x.0)
-    ∙ not_below x.0 r (first (below_all entry_cmp x.0 r) _ (sorted_right s (x ∷ r) h)) in
+    ∙ not_below x.0 r (first (below_all entry_cmp x.0 r) _ (sorted-right s (x ∷ r) h)) in
     ap last_key (all_below x.0 s (x ∷ r) (above_head s x r h) ∙ ap (λ es. s ++ es) own ∙ append-nil s)
 
 -- a child as a row, with the key of the one before it
@@ -311,30 +302,9 @@ placed_changes-tested test change old all (x ∷ es) =
       | false ↦ placed_changes-tested test change old all es
     ]
 
--- each child is found under its key
-abbrev Finds : Entries → Entries → Type 0
-Finds all es = AllByRecursion (λ e. value_at all e.0.1 ≡ Some e.1) es
-
-finds_more : (x : Entry × PathTree) (all es : Entries) → value_at all x.0.1 ≡ None → Finds all es → Finds (x ∷ all) es
-finds_more x all [] none h = tt
-finds_more x all (y ∷ es) none h = (
-  value_at-cons x all y.0.1 ∙ elim (key_eq x.0.1 y.0.1) as (λ b. key_eq x.0.1 y.0.1 ≡ b → cond b (Some x.1) (value_at all y.0.1) ≡ Some y.1) [
-    | true ↦ λ t. cc (h.0, none, ap (value_at all) (key_eq-is x.0.1 y.0.1 t))
-    | false ↦ λ t. h.0
-  ] refl,
-  finds_more x all es none h.1,
-)
-
-finds_all : (es : Entries) → Once es → Finds es es
-finds_all [] h = tt
-finds_all (x ∷ es) h = (
-  value_at-cons x es x.0.1 ∙ ap (λ b. cond b (Some x.1) (value_at es x.0.1)) (key_eq-same x.0.1),
-  finds_more x es es h.0 (finds_all es h.1),
-)
-
 -- no change is given of what didn't differ, so all of which one is given are noted
 tested_noted : (test : Option PathTree → PathTree → Bool) → ((v : PathTree) → test (Some v) v ≡ false) → (ks : List Key) (old new es : Entries)
-    → Notes [] ks old new → Finds new es → tested test old (noted_in ks es) ≡ tested test old es
+    → Notes [] ks old new → Finds (map row_of new) (map row_of es) → tested test old (noted_in ks es) ≡ tested test old es
 tested_noted test still ks old new [] notes h = refl
 tested_noted test still ks old new (x ∷ es) notes h =
     let rest = tested_noted test still ks old new es notes h.1 in
@@ -356,7 +326,7 @@ pub given-all : (k : Kind) (index : Index) (t : PathTree) (ks : List Key) (new :
 given-all k index t ks new h notes =
     let old = rows_in_tree index t in
     (λ i. map (λ (e : Entry × PathTree). change_of k e.0.1 e.1 (before e.0 new)) (filter (λ (e : Entry × PathTree). is_given k index (sym (value_at-children index t e.0.1) i) e.1) (noted_in ks new)))
-    ∙ ap (map (λ (e : Entry × PathTree). change_of k e.0.1 e.1 (before e.0 new))) (tested_noted (is_given k index) (no_change k index) ks old new new notes (finds_all new h.once))
+    ∙ ap (map (λ (e : Entry × PathTree). change_of k e.0.1 e.1 (before e.0 new))) (tested_noted (is_given k index) (no_change k index) ks old new new notes (finds_itself (map row_of new) h.once))
     ∙ placed_changes-tested (is_given k index) (change_of k) old new new
     ∙ ap (λ ps. map (λ (p : Row × Option Key). change_of k p.0.key p.0.value p.1) (filter (λ (p : Row × Option Key). is_given k index (row_at (map row_of old) p.0.key) p.0.value) ps)) (sym (placed-rows [] new h.rises))
 

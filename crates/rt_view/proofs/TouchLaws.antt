@@ -7,7 +7,7 @@ use Rattle.std.proofs.lemmas.List.Folds.{list_any-append}
 use Rattle.std.specs.FinMap as map_of
 use Rattle.std.specs.FinMap.Entries.{is_sorted}
 use Rattle.rt_tree.specs.Allowed.{IsAllowed}
-use Rattle.rt_tree.specs.PathTree.{Key, PathTree, leaf_at-sub, levels, levels_le, key_eq, key_eq-is, key_eq-same, child, child_of, is_null, non_null, put}
+use Rattle.rt_tree.specs.PathTree.{Key, PathTree, leaf_at-sub, levels, levels_le, key_eq, key_eq-is, key_eq-same, key_eq-symm, child, child_of, is_null, non_null, put}
 use Rattle.rt_tree.specs.Children.{children_of, child_of-children_of}
 use Rattle.rt_tree.specs.Parts.{child-put, child-put_other}
 use Rattle.rt_order.specs.Entries.{Entry, entry, entry_cmp, sort_value}
@@ -45,31 +45,38 @@ as_it_was index es k o h is = record {
   ] refl;
 }
 
-pub taken_here : (index : Index) (k : Key) (t : PathTree) (es : Entries) → IsListed index es → value_at es k ≡ Some t → HasAt index es k None (without (entry index (k, t)) es)
-taken_here index k t es h is = record {
-  listed = listed-filter (λ x. not (eq_by_cmp entry_cmp (entry index (k, t)) x)) index es h;
-  value = λ j. value_at-filter (λ x. not (eq_by_cmp entry_cmp (entry index (k, t)) x)) index es h j ∙ at j;
-}
-  where
-    other : (j : Key) (o : Option PathTree) → key_eq k j ≡ false → passing (λ x. not (eq_by_cmp entry_cmp (entry index (k, t)) x)) index j o ≡ o
-    other j None n = refl
-    other j (Some v) n = ap (λ b. cond (not b) (Some v) None) (apart_keys (entry index (k, t)) (entry index (j, v)) (swap n))
-      where
-        swap : key_eq k j ≡ false → key_eq j k ≡ false
-        swap f = elim (key_eq j k) as (λ b. key_eq j k ≡ b → b ≡ false) [
-          | true ↦ λ g. cc (f, key_eq-is j k g, key_eq-same j)
-          | false ↦ λ g. refl
-        ] refl
+-- what stands under a key stands at this entry, if anything does
+abbrev pub StandsAt : Index → Key → Entry → Entries → Type 0
+StandsAt index k e es = (x : PathTree) → value_at es k ≡ Some x → entry index (k, x) ≡ e
 
-    at : (j : Key) → passing (λ x. not (eq_by_cmp entry_cmp (entry index (k, t)) x)) index j (value_at es j) ≡ cond (key_eq k j) None (value_at es j)
-    at j = elim (key_eq k j) as (λ b. key_eq k j ≡ b → passing (λ x. not (eq_by_cmp entry_cmp (entry index (k, t)) x)) index j (value_at es j) ≡ cond b None (value_at es j)) [
-      | true ↦ λ s.
-          let same = key_eq-is k j s in
-          ap (λ (i : Key). passing (λ x. not (eq_by_cmp entry_cmp (entry index (k, t)) x)) index i (value_at es i)) (sym same)
-          ∙ ap (passing (λ x. not (eq_by_cmp entry_cmp (entry index (k, t)) x)) index k) is
-          ∙ ap (λ o. cond (not (is_eq o)) (Some t) None) (tied_itself entry_cmp_total (entry index (k, t)))
-      | false ↦ λ s. other j (value_at es j) s
-    ] refl
+module _ (index : Index) (k : Key) (e : Entry) (own : e.1 ≡ k) where
+  gone_there : (o : Option PathTree) → ((x : PathTree) → o ≡ Some x → entry index (k, x) ≡ e) → passing (λ x. not (eq_by_cmp entry_cmp e x)) index k o ≡ None
+  gone_there None g = refl
+  gone_there (Some x) g =
+      ap (λ (z : Entry). cond (not (eq_by_cmp entry_cmp e z)) (Some x) None) (g x refl)
+      ∙ ap (λ o. cond (not (is_eq o)) (Some x) None) (tied_itself entry_cmp_total e)
+
+  still_there : (j : Key) (o : Option PathTree) → key_eq k j ≡ false → passing (λ x. not (eq_by_cmp entry_cmp e x)) index j o ≡ o
+  still_there j None n = refl
+  still_there j (Some v) n =
+      ap (λ b. cond (not b) (Some v) None) (apart_keys e (entry index (j, v)) (ap (key_eq j) own ∙ key_eq-symm j k ∙ n))
+
+  pub left_here : (es : Entries) → IsListed index es → StandsAt index k e es → HasAt index es k None (without e es)
+  left_here es h stands = record {
+    listed = listed-filter (λ x. not (eq_by_cmp entry_cmp e x)) index es h;
+    value = λ j. value_at-filter (λ x. not (eq_by_cmp entry_cmp e x)) index es h j ∙ at j;
+  }
+    where
+      at : (j : Key) → passing (λ x. not (eq_by_cmp entry_cmp e x)) index j (value_at es j) ≡ cond (key_eq k j) None (value_at es j)
+      at j = elim (key_eq k j) as (λ b. key_eq k j ≡ b → passing (λ x. not (eq_by_cmp entry_cmp e x)) index j (value_at es j) ≡ cond b None (value_at es j)) [
+        | true ↦ λ s.
+            let same = key_eq-is k j s in
+            ap (λ (i : Key). passing (λ x. not (eq_by_cmp entry_cmp e x)) index i (value_at es i)) (sym same) ∙ gone_there (value_at es k) stands
+        | false ↦ λ s. still_there j (value_at es j) s
+      ] refl
+
+pub taken_here : (index : Index) (k : Key) (t : PathTree) (es : Entries) → IsListed index es → value_at es k ≡ Some t → HasAt index es k None (without (entry index (k, t)) es)
+taken_here index k t es h is = left_here index k (entry index (k, t)) refl es h (λ x g. let same : x ≡ t = cc in ap (λ (y : PathTree). entry index (k, y)) same)
 
 -- a child that is taken out
 pub taken_at_key : (q : Query) (k : Key) (o : Option PathTree) (es : Entries) → IsListed q.index es → value_at es k ≡ passing (has q.range) q.index k o → HasAt q.index es k None (taken_out q k o es)

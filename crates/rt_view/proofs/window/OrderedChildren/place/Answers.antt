@@ -8,7 +8,7 @@ use Rattle.rt_order.specs.Entries.{entry_cmp}
 use Rattle.rt_view.specs.inside.ChildChain.{halves_of}
 use Rattle.rt_view.specs.inside.Ranged.{OrderedChildren, between, inner, inside}
 use Rattle.rt_view.specs.inside.Windows.{PutWithin, known_in}
-use Rattle.rt_view.proofs.RangedLaws.{beside_put, beside_stays, counts_fit, has-between, mid_half, mid_put, mid_puts, mid_there, on_ok}
+use Rattle.rt_view.proofs.RangedLaws.{beside_put, beside_stays, counts_fit, has-between, mid_full, mid_put, mid_puts, mid_there, mid_whole, on_ok}
 use Rattle.rt_view.proofs.window.OrderedChildren.place.Goals as goal
 
 pub returns-in_err-put_child-clause-all : goal.returns-in_err-put_child-clause-all
@@ -86,6 +86,7 @@ returns-clause-put c =
     (record { limit = s.limit; children = record { range = between s.from s.to; halves = new } })) c.self.view_is (record {
       inside = has-between s.from s.to c.self.invariant.spread.from_only c.self.invariant.spread.to_only c.args.position ∙ at;
       puts = mid_puts s.from s.to old s.low s.high c.self.invariant.spread new c.args.position c.args.tree c.in_ok-put.put.0 rise at c.in_ok-put.ensures.puts;
-      lands = c.in_ok-put.ensures.half ∙ mid_half s.from s.to old s.low s.high c.self.invariant.spread new c.args.position c.args.at_cut rise at;
+      whole = mid_whole s.from s.to old s.low s.high c.self.invariant.spread new c.args.position c.args.tree rise at c.in_ok-put.ensures.whole;
+      full = mid_full s.from s.to old s.low s.high c.self.invariant.spread new c.args.position c.args.at_cut c.in_ok-put.put.0 at c.in_ok-put.ensures.half;
       stood = c.in_ok-put.ensures.was ∙ mid_there s.from s.to old s.low s.high c.self.invariant.spread new c.args.position c.in_ok-put.put.0 at;
     })

@@ -46,40 +46,34 @@ invariant_of-self-2 c =
       marks = c.take_child-half.ensures.marks s.from c.self.invariant.marks;
     }
 
-pub returns-then-inside-clause-all : goal.returns-then-inside-clause-all
-returns-then-inside-clause-all c =
-    c.take_child-half.ensures.whole ∙ ap (λ (o : OrderedChildren). remove_entry (is_at (entry_cmp c.args.position.now)) (known_in o)) c.self.view_is
-
-pub returns-then-inside-clause-taken : goal.returns-then-inside-clause-taken
-returns-then-inside-clause-taken c =
-    let s = c.self.inside in
-    let new = halves_of c.take_child-half.new.chain in
-    subst (λ (o : OrderedChildren). Taken c.args.position.now (inner o.children) (inner_of s.from s.to new)) c.self.view_is
-    (taken_inner s.from s.to (halves_of s.chain) s.low s.high c.self.invariant.spread new c.args.position.now c.take_child-half.ensures.taken)
-
-pub returns-then-inside-clause-had : goal.returns-then-inside-clause-had
-returns-then-inside-clause-had c =
+pub returns-then-inside : goal.returns-then-inside
+returns-then-inside c =
     let s = c.self.inside in
     let old = halves_of s.chain in
+    let new = halves_of c.take_child-half.new.chain in
     let at : (has s.from c.args.position.now && has s.to c.args.position.now) ≡ true = search rules in
-    subst (λ (o : OrderedChildren). Had c.args.position.now c.take_child-half.result (inner o.children)) c.self.view_is
-    (mid_had s.from s.to old s.low s.high c.self.invariant.spread (halves_of c.take_child-half.new.chain) c.args.position.now c.take_child-half.result at c.take_child-half.ensures.had)
+    record {
+      limit = search rules;
+      range = search rules;
+      all = c.take_child-half.ensures.whole ∙ ap (λ (o : OrderedChildren). remove_entry (is_at (entry_cmp c.args.position.now)) (known_in o)) c.self.view_is;
+      taken = subst (λ (o : OrderedChildren). Taken c.args.position.now (inner o.children) (inner_of s.from s.to new)) c.self.view_is
+          (taken_inner s.from s.to old s.low s.high c.self.invariant.spread new c.args.position.now c.take_child-half.ensures.taken);
+      had = subst (λ (o : OrderedChildren). Had c.args.position.now c.take_child-half.result (inner o.children)) c.self.view_is
+          (mid_had s.from s.to old s.low s.high c.self.invariant.spread new c.args.position.now c.take_child-half.result at c.take_child-half.ensures.had);
+    }
 
-pub returns-clause-all : goal.returns-clause-all
-returns-clause-all c =
-    c.take_child-half.ensures.whole ∙ ap (λ (o : OrderedChildren). remove_entry (is_at (entry_cmp c.args.position.now)) (known_in o)) c.self.view_is
-
-pub returns-clause-taken : goal.returns-clause-taken
-returns-clause-taken c =
-    let s = c.self.inside in
-    let new = halves_of c.take_child-half.new.chain in
-    subst (λ (o : OrderedChildren). Taken c.args.position.now (inner o.children) (inner_of s.from s.to new)) c.self.view_is
-    (taken_inner s.from s.to (halves_of s.chain) s.low s.high c.self.invariant.spread new c.args.position.now c.take_child-half.ensures.taken)
-
-pub returns-clause-had : goal.returns-clause-had
-returns-clause-had c =
+pub returns : goal.returns
+returns c =
     let s = c.self.inside in
     let old = halves_of s.chain in
+    let new = halves_of c.take_child-half.new.chain in
     let off : (has s.from c.args.position.now && has s.to c.args.position.now) ≡ false = search rules in
-    subst (λ (o : OrderedChildren). Had c.args.position.now None (inner o.children)) c.self.view_is
-    (beside_had s.from s.to old s.low s.high c.self.invariant.spread (halves_of c.take_child-half.new.chain) c.args.position.now off)
+    record {
+      limit = search rules;
+      range = search rules;
+      all = c.take_child-half.ensures.whole ∙ ap (λ (o : OrderedChildren). remove_entry (is_at (entry_cmp c.args.position.now)) (known_in o)) c.self.view_is;
+      taken = subst (λ (o : OrderedChildren). Taken c.args.position.now (inner o.children) (inner_of s.from s.to new)) c.self.view_is
+          (taken_inner s.from s.to old s.low s.high c.self.invariant.spread new c.args.position.now c.take_child-half.ensures.taken);
+      had = subst (λ (o : OrderedChildren). Had c.args.position.now None (inner o.children)) c.self.view_is
+          (beside_had s.from s.to old s.low s.high c.self.invariant.spread new c.args.position.now off);
+    }
