@@ -387,7 +387,7 @@ none_later_above (w ∷ ws) m q r h =
     || none_later_above ws m q r.1 (λ j l t. h j l (or_right ((w.id == j) && sets (above q) w) (some_entry (above q) ws j) t)) i)
 
 -- where the last write at or above the path is at the path itself, the entries above don't count
-shows_own : (ws : List Write) (m : ℕ) (q : Path) (t u : PathTree) → Rising ws → AreApart ws → some_entry (at q) ws m ≡ true
+pub shows_own : (ws : List Write) (m : ℕ) (q : Path) (t u : PathTree) → Rising ws → AreApart ws → some_entry (at q) ws m ≡ true
     → ((j : ℕ) → m < j → some_entry (above q) ws j ≡ true → ⊥) → fold (overlaid q) t (assignments ws) ≡ fold (overlaid q) u (within (assignments ws) q)
 shows_own [] m q t u r apart e none = cc
 shows_own (w ∷ ws) m q t u r apart e none =

@@ -88,7 +88,7 @@ later_passed : (last : Option ℕ) (n : ℕ) → is_later last n ≡ false → l
 later_passed None n e = cc
 later_passed (Some m) n e = let most : n ≤ m = ltb-false m n e in let is : max m n ≡ m = omega arith in ap Some is
 
-later_new : (last : Option ℕ) (n : ℕ) → is_later last n ≡ true → later_of last (Some n) ≡ Some n
+pub later_new : (last : Option ℕ) (n : ℕ) → is_later last n ≡ true → later_of last (Some n) ≡ Some n
 later_new None n e = refl
 later_new (Some m) n e = let less : m < n = ltb-true m n e in let is : max m n ≡ n = omega arith in ap Some is
 
@@ -172,7 +172,7 @@ any_slice test (b ∷ es) zero a e h = let is : b ≡ a = cc in or_left (test b)
 any_slice test (b ∷ es) (suc i) a e h = or_right (test b) (list_any test es) (any_slice test es i a e h)
 
 -- all entries at the path itself
-at_path : (x : Path) (b : Bool) (a : Assignment) → a.0 ≡ x → list_any (λ e. not (is_at_or_above x e.0)) (marked b a) ≡ false
+pub at_path : (x : Path) (b : Bool) (a : Assignment) → a.0 ≡ x → list_any (λ e. not (is_at_or_above x e.0)) (marked b a) ≡ false
 at_path x b a is =
     let own : is_at_or_above x a.0 ≡ true = sym (at_itself x a.0 (sym is)) in
     elim (b && is_null a.1) as (λ c. list_any (λ e. not (is_at_or_above x e.0)) (cond c ((a.0, of_leaf (truth true)) ∷ a ∷ []) (a ∷ [])) ≡ false) [
@@ -180,14 +180,14 @@ at_path x b a is =
       | false ↦ (λ i. not (own i) || false)
     ]
 
-last_of : (x : Path) (b : Bool) (a : Assignment) (t : PathTree) → a.0 ≡ x → fold (overlaid x) t (marked b a) ≡ a.1
+pub last_of : (x : Path) (b : Bool) (a : Assignment) (t : PathTree) → a.0 ≡ x → fold (overlaid x) t (marked b a) ≡ a.1
 last_of x b a t is =
     elim (b && is_null a.1) as (λ c. fold (overlaid x) t (cond c ((a.0, of_leaf (truth true)) ∷ a ∷ []) (a ∷ [])) ≡ a.1) [
       | true ↦ overlaid-own x (overlaid x t (a.0, of_leaf (truth true))) a is
       | false ↦ overlaid-own x t a is
     ]
 
-full_of_mark : (a : Assignment) → is_null (of_leaf (truth true)) ≡ false → list_any is_full (marked true a) ≡ true
+pub full_of_mark : (a : Assignment) → is_null (of_leaf (truth true)) ≡ false → list_any is_full (marked true a) ≡ true
 full_of_mark a leaf =
     elim (is_null a.1) as (λ c. is_null a.1 ≡ c → list_any is_full (cond c ((a.0, of_leaf (truth true)) ∷ a ∷ []) (a ∷ [])) ≡ true) [
       | true ↦ λ e. ap (λ b. not b || (is_full a || false)) leaf

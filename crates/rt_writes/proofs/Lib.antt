@@ -8,5 +8,6 @@ pub mod OverlapLaws
 pub mod PartLaws
 pub mod RowLaws
 pub mod Shallow
+pub mod ShownLaws
 pub mod SpotLaws
 pub mod TopLaws

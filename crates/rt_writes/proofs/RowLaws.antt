@@ -41,7 +41,7 @@ below_path x k a e =
     ap (is_at_or_above x) (at.1 ∙ joined x k at.0) ∙ ap is_some (strip-append x (k ∷ at.0))
 
 -- and not at or above it
-not_above : (x : Path) (k : Key) (a : Path) → is_at_or_above (x ++ k ∷ []) a ≡ true → is_at_or_above a x ≡ true → ⊥
+pub not_above : (x : Path) (k : Key) (a : Path) → is_at_or_above (x ++ k ∷ []) a ≡ true → is_at_or_above a x ≡ true → ⊥
 not_above x k a e f =
     let at = reach (x ++ k ∷ []) a e in
     let on = reach a x f in
@@ -268,35 +268,56 @@ row_next s c j all rest is h =
       sorted,
     )
 
--- what is laid once each spot of the row but these has been
+-- what is laid at x once each spot of the row but these has been
+abbrev pub IsLaidAt : Path → List Write → Spot → Option ℕ → Path → PathTree → List (Key × Spot) → PathTree → Type 0
+IsLaidAt x ws s last p t rest done =
+    AreApart ws → IsMergedAt ws x s → sets_whole (after last ws) x ≡ false → Laid (Part ws s x last rest) p t done
+
+-- wherever the spot is
 abbrev pub IsLaid : List Write → Spot → Option ℕ → Path → PathTree → List (Key × Spot) → PathTree → Type 0
-IsLaid ws s last p t rest done =
-    (x : Path) → AreApart ws → IsMergedAt ws x s → sets_whole (after last ws) x ≡ false → Laid (Part ws s x last rest) p t done
+IsLaid ws s last p t rest done = (x : Path) → IsLaidAt x ws s last p t rest done
 
 pub laid_first : (ws : List Write) (s : Spot) (last : Option ℕ) (p : Path) (t : PathTree) (all : List (Key × Spot)) → all ≡ (below_of s).entries → IsLaid ws s last p t all t
 laid_first ws s last p t all is = λ x apart m none. ([], refl, subst (λ r. Part ws s x last r []) (sym is) (part_none ws s x last))
+
+-- one spot more
+pub laid_more : (x : Path) (ws : List Write) (s c : Spot) (last : Option ℕ) (p : Path) (t one two : PathTree) (j : Key) (all rest : List (Key × Spot))
+    → all ≡ (j, c) ∷ rest → Row s all → IsLaidAt x ws s last p t all one
+    → (AreApart ws → IsMergedAt ws (x ++ j ∷ []) c → sets_whole (after last ws) x ≡ false → Laid (LaysAt ws (x ++ j ∷ []) last) p one two)
+    → IsLaidAt x ws s last p t rest two
+laid_more x ws s c last p t one two j all rest is row before lays = λ apart m none.
+    let it = row_next s c j all rest is row in
+    let so_far = before apart m none in
+    let more = lays apart (merged_child ws x s c j m it.1) none in (
+      so_far.0 ++ more.0,
+      more.1 ∙ ap (λ u. fold (overlaid p) u more.0) so_far.1 ∙ sym (fold-append (overlaid p) t so_far.0 more.0),
+      part_more ws s c x last j rest so_far.0 more.0 it.2 it.1 more.2 (subst (λ r. Part ws s x last r so_far.0) is so_far.2),
+    )
+
+-- first what is set at a spot, and then what lies below
+pub laid_both : (ws : List Write) (x : Path) (j : Key) (c : Spot) (last here : Option ℕ) (p : Path) (one two three : PathTree) → IsLast (λ n. has_here c [] n ≡ true) here
+    → ((x : Path) → AreApart ws → IsMergedAt ws x c → Laid (SetsAt ws x last here) p one two)
+    → ((x : Path) → AreApart ws → IsMergedAt ws x c → sets_whole (after (later_of last here) ws) x ≡ false → Laid (LaysAt ws x (later_of last here)) p two three)
+    → AreApart ws → IsMergedAt ws (x ++ j ∷ []) c → sets_whole (after last ws) x ≡ false → Laid (LaysAt ws (x ++ j ∷ []) last) p one three
+laid_both ws x j c last here p one two three h sets below apart m none =
+    let own = sets (x ++ j ∷ []) apart m in
+    let under = below (x ++ j ∷ []) apart m (none_above ws x j c last here m h none) in (
+      own.0 ++ under.0,
+      under.1 ∙ ap (λ u. fold (overlaid p) u under.0) own.1 ∙ sym (fold-append (overlaid p) one own.0 under.0),
+      lays_both ws (x ++ j ∷ []) last here own.0 under.0 own.2 under.2,
+    )
 
 pub laid_next : (ws : List Write) (s c : Spot) (last here : Option ℕ) (p : Path) (t one two three : PathTree) (j : Key) (all rest : List (Key × Spot))
     → all ≡ (j, c) ∷ rest → Row s all → IsLast (λ n. has_here c [] n ≡ true) here → IsLaid ws s last p t all one
     → ((x : Path) → AreApart ws → IsMergedAt ws x c → Laid (SetsAt ws x last here) p one two)
     → ((x : Path) → AreApart ws → IsMergedAt ws x c → sets_whole (after (later_of last here) ws) x ≡ false → Laid (LaysAt ws x (later_of last here)) p two three)
     → IsLaid ws s last p t rest three
-laid_next ws s c last here p t one two three j all rest is row h before sets below = λ x apart m none.
-    let it = row_next s c j all rest is row in
-    let child = merged_child ws x s c j m it.1 in
-    let so_far = before x apart m none in
-    let own = sets (x ++ j ∷ []) apart child in
-    let under = below (x ++ j ∷ []) apart child (none_above ws x j c last here child h none) in (
-      so_far.0 ++ (own.0 ++ under.0),
-      under.1 ∙ ap (λ u. fold (overlaid p) u under.0) (own.1 ∙ ap (λ u. fold (overlaid p) u own.0) so_far.1)
-          ∙ sym (fold-append (overlaid p) t so_far.0 (own.0 ++ under.0) ∙ fold-append (overlaid p) (fold (overlaid p) t so_far.0) own.0 under.0),
-      part_more ws s c x last j rest so_far.0 (own.0 ++ under.0) it.2 it.1
-          (lays_both ws (x ++ j ∷ []) last here own.0 under.0 own.2 under.2)
-          (subst (λ r. Part ws s x last r so_far.0) is so_far.2),
-    )
+laid_next ws s c last here p t one two three j all rest is row h before sets below =
+    λ x. laid_more x ws s c last p t one three j all rest is row (before x) (laid_both ws x j c last here p one two three h sets below)
 
-pub laid_all : (ws : List Write) (s : Spot) (last : Option ℕ) (p : Path) (t done : PathTree) (rest : List (Key × Spot)) → rest ≡ [] → IsLaid ws s last p t rest done
-    → (x : Path) → AreApart ws → IsMergedAt ws x s → sets_whole (after last ws) x ≡ false → Laid (LaysAt ws x last) p t done
-laid_all ws s last p t done rest is h x apart m none =
-    let it = h x apart m none in
+-- once none is left, all is laid
+pub laid_all : (x : Path) (ws : List Write) (s : Spot) (last : Option ℕ) (p : Path) (t done : PathTree) (rest : List (Key × Spot)) → rest ≡ [] → IsLaidAt x ws s last p t rest done
+    → AreApart ws → IsMergedAt ws x s → sets_whole (after last ws) x ≡ false → Laid (LaysAt ws x last) p t done
+laid_all x ws s last p t done rest is h apart m none =
+    let it = h apart m none in
     (it.0, it.1, part_all ws s x last it.0 m none (subst (λ r. Part ws s x last r it.0) is it.2))

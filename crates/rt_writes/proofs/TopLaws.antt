@@ -9,11 +9,11 @@ use Rattle.rt_tree.specs.PathTree.{Path, PathTree, path_eq}
 use Rattle.rt_tree.specs.Assignments.{is_at_or_above}
 use Rattle.rt_writes.specs.Writes.{Write, overlay, sets_whole}
 use Rattle.rt_writes.specs.declared.spots.Spot.{Spot}
-use Rattle.rt_writes.specs.inside.Spots.{under_of, spot_at, IsAbove, IsLast, some_entry, IsMerged, IsMergedAt, AreApart, is_later, after, overlaid_last, LaysAt, Laid}
+use Rattle.rt_writes.specs.inside.Spots.{under_of, spot_at, IsAbove, IsLast, some_entry, IsMerged, is_later, after, overlaid_last}
 use Rattle.rt_writes.specs.laws.Places.{filter_all}
 use Rattle.rt_writes.proofs.NumberLaws.{Rising, sets, any_above, or_left, or_right, under_at, whole_after, not_so}
 use Rattle.rt_writes.proofs.SpotLaws.{both_true}
-use Rattle.rt_writes.proofs.LayLaws.{none_after, merged_at, nothing_after}
+use Rattle.rt_writes.proofs.LayLaws.{none_after, nothing_after}
 
 above_at : (ws : List Write) (p : Path) (j : ℕ) → some_entry (λ a. is_at_or_above a.0 p) ws j ≡ true
     → (x : Path) × (y : Path) × (p ≡ x ++ y) × (some_entry (λ a. path_eq a.0 x) ws j ≡ true)
@@ -41,7 +41,7 @@ none_later ws s p last m h =
     not_last None h j l a = h j a
     not_last (Some n) h j l a = let less : n < j = ltb-true n j l in let most : j ≤ n = h.1 j a in omega arith
 
-all_after : (ws : List Write) → ws ≡ after None ws
+pub all_after : (ws : List Write) → ws ≡ after None ws
 all_after ws = sym (filter_all (λ w. true) ws (λ k d l. refl))
 
 pub laid_last : (ws : List Write) (s : Spot) (p : Path) (t u : PathTree) (last : Option ℕ) → Rising ws → IsMerged ws s → IsLast (IsAbove s p) last
@@ -51,15 +51,13 @@ laid_last ws s p t u (Some n) r m h is =
     ap (λ x. overlay p x (after (Some n) ws)) is
     ∙ sym (ap (overlay p t) (all_after ws) ∙ whole_after ws h.0.0 h.0.1 p t None n r h.0.2 refl (sym (m.here h.0.0 n) ∙ h.0.3))
 
--- by the spots below that of the path
-pub laid_below : (ws : List Write) (root s : Spot) (p : Path) (t u : PathTree) (last : Option ℕ) {E : Type 0} (result : Result PathTree E)
-    → Rising ws → AreApart ws → IsMerged ws root → IsLast (IsAbove root p) last → u ≡ overlaid_last p t ws last → Some s ≡ spot_at root p
-    → IfOk result (λ done. (x : Path) → AreApart ws → IsMergedAt ws x s → sets_whole (after last ws) x ≡ false → Laid (LaysAt ws x last) p u done)
+-- by the spot of the path
+pub laid_below : (ws : List Write) (root : Spot) (p : Path) (t u : PathTree) (last : Option ℕ) {E : Type 0} (result : Result PathTree E)
+    → Rising ws → IsMerged ws root → IsLast (IsAbove root p) last → u ≡ overlaid_last p t ws last
+    → IfOk result (λ done. done ≡ overlay p u (after last ws))
     → IfOk result (λ done. done ≡ overlay p t ws)
-laid_below ws root s p t u last (Err e) r apart m h is at laid = tt
-laid_below ws root s p t u last (Ok done) r apart m h is at laid =
-    let it = laid p apart (merged_at ws p [] root s m (sym at)) (none_later ws root p last m h) in
-    it.1 ∙ it.2.same u ∙ laid_last ws root p t u last r m h is
+laid_below ws root p t u last (Err e) r m h is laid = tt
+laid_below ws root p t u last (Ok done) r m h is laid = laid ∙ laid_last ws root p t u last r m h is
 
 -- or without one
 pub laid_alone : (ws : List Write) (root : Spot) (p : Path) (t u : PathTree) (last : Option ℕ) → Rising ws → IsMerged ws root → IsLast (IsAbove root p) last

@@ -12,7 +12,7 @@ ghost use Rattle.rt_writes.specs.inside.Spots.{IsAbove, IsLast, IsMerged, overla
 
 use crate::entries::Entries;
 use crate::error::WriteError;
-use crate::spots::{Spot, lay_below, sets_child};
+use crate::spots::{Spot, lay_children, sets_child};
 use rt_tree::{Key, Path, Tree};
 use std::alloc::{AllocError, Global};
 use std::collections::VecDeque;
@@ -232,7 +232,7 @@ impl Pending {
     }
 
     // The same, by the last write at or above the path, which hides all before it: by the tree that is
-    // kept where it shows, else spot by spot by what came after it below the path.
+    // kept where it shows, else child by child by what came after it below the path.
     fn overlay_by_tree(&self, root: &Spot, path: &Path, tree: Tree) -> Result<Tree, AllocError>
         requires shallow { IsShallow (path.now, tree) }
         requires merged { IsMerged self.now root.now }
@@ -248,7 +248,7 @@ impl Pending {
         }
         let after = self.overlaid_last(last, path, tree)?;
         match spot {
-            Some(spot) => lay_below(spot, &self.writes, last, path, after),
+            Some(spot) => lay_children(spot, &self.writes, last, path, after),
             None => Ok(after),
         }
     }

@@ -5,13 +5,13 @@ ghost use Rattle.std.specs.List.{All, fold};
 ghost use Rattle.std.specs.Option.{option_copied, option_map_or};
 ghost use Rattle.std.specs.Ordering.{nat_cmp};
 ghost use Rattle.std.specs.BTreeMap.{get};
-ghost use Rattle.rt_tree.specs.PathTree.{Path as Keys, null, is_null};
+ghost use Rattle.rt_tree.specs.PathTree.{Path as Keys, null, is_null, levels};
 ghost use Rattle.rt_writes.specs.inside.Spots.{spot_at, has_here, has_under, has_full, place_at, Adds};
 ghost use Rattle.rt_writes.specs.inside.Spots.{Forgets, AddsAll, ForgetsAll, IsLast, IsAbove, IsBare};
 ghost use Rattle.rt_writes.specs.inside.Spots.{later_of, tree_at, AddsTrees, KeepsTrees, KeepsPart};
 ghost use Rattle.rt_writes.specs.inside.Spots.{IsMergedAt, AreApart, LaysAt, SetsAt, Laid, after, entry_at};
-ghost use Rattle.rt_writes.specs.inside.Spots.{marked};
-ghost use Rattle.rt_writes.specs.Writes.{IsShallow, overlaid, sets_whole, touches};
+ghost use Rattle.rt_writes.specs.inside.Spots.{marked, IsShown};
+ghost use Rattle.rt_writes.specs.Writes.{IsShallow, overlaid, overlay, sets_whole, touches};
 ghost use Rattle.rt_tree.specs.Assignments.{do_overlap};
 ghost use Rattle.rt_writes.specs.Kept.{IsKept};
 
@@ -173,6 +173,20 @@ impl Spot {
         }
     }
 
+    // The tree that is kept here, where it is all that shows of what is after the last one: the last
+    // write that sets the whole of what stands here is, and one that sets something.
+    fn shown_after(&self, last: Option<u64>, here: Option<u64>) -> Option<&Tree>
+        ensures { IfSome result (λ t. IsShown self.now last here t.now) }
+    {
+        let Some(number) = here else {
+            return None;
+        };
+        if !is_after(last, number) || !self.under.has_full_after(last) {
+            return None;
+        }
+        self.under.tree.as_ref()
+    }
+
     // The part below these keys of the tree that is kept where that write sets the whole of what stands
     // at or above them; none where none is kept there.
     pub(crate) fn copy_kept(
@@ -248,6 +262,81 @@ pub(crate) fn sets_child(spot: Option<&Spot>, key: &Key) -> bool
         Some(spot) => spot.is_child_set(key),
         None => false,
     }
+}
+
+// ---- what the pending writes lay over a tree, child by child
+
+// The tree at the path, whose spot this is, after the writes with later numbers, which set something
+// below it.
+pub(crate) fn lay_children(
+    spot: &Spot,
+    writes: &VecDeque<Write>,
+    last: Option<u64>,
+    path: &Path,
+    tree: Tree,
+) -> Result<Tree, AllocError>
+    requires tree { IsShallow (path.now, tree) }
+    requires kept { IsKept writes.now.items }
+    requires apart { AreApart writes.now.items }
+    requires merged { IsMergedAt writes.now.items path.now spot.now }
+    requires none { sets_whole (after last writes.now.items) path.now ≡ false }
+    ensures laid { IfOk result (λ done. done ≡ overlay path.now tree (after last writes.now.items)) }
+    ensures shallow { IfOk result (λ done. IsShallow (path.now, done)) }
+    ensures touched { OnErr result (touches writes.now.items path.now ≡ true) }
+{
+    if !spot.under.has_after(last) {
+        return Ok(tree);
+    }
+    let mut done = tree;
+    for (key, child) in &spot.below {
+        done = lay_child(key, child, writes, last, path, done)?;
+    }
+    Ok(done)
+}
+
+// The tree at the path after what these writes set at or below its child. The tree that they make
+// there takes the child's place, where it is kept.
+fn lay_child(
+    key: &Key,
+    child: &Spot,
+    writes: &VecDeque<Write>,
+    last: Option<u64>,
+    path: &Path,
+    tree: Tree,
+) -> Result<Tree, AllocError>
+    requires tree { IsShallow (path.now, tree) }
+    requires kept { IsKept writes.now.items }
+    requires apart { AreApart writes.now.items }
+    requires merged { IsMergedAt writes.now.items (path.now ++ key.now ∷ []) child.now }
+    requires none { sets_whole (after last writes.now.items) path.now ≡ false }
+    ensures laid { IfOk result
+        (Laid (LaysAt writes.now.items (path.now ++ key.now ∷ []) last) path.now tree) }
+    ensures shallow { IfOk result (λ done. IsShallow (path.now, done)) }
+    ensures touched { OnErr result (touches writes.now.items path.now ≡ true) }
+{
+    let here = child.last_here();
+    if let Some(shown) = child.shown_after(last, here) {
+        // For the prover: no path has more than 32 keys.
+        let _is_path = path.keys();
+        return put_shown(path.allocator(), key, shown, tree);
+    }
+    let done = lay_here(child, here, writes, last, path, tree)?;
+    lay_below(child, writes, later(last, here), path, done)
+}
+
+// The tree with a copy of the other one in the place of its child. Something was set there since, so
+// a leaf has gone also where the other one is null.
+fn put_shown(alloc: Global, key: &Key, shown: &Tree, tree: Tree) -> Result<Tree, AllocError>
+    requires { levels shown.now ≤ MAX_KEYS }
+    ensures { IfOk result (λ done. (p : Keys)
+        → done ≡ fold (overlaid p) tree (marked true (p ++ key.now ∷ [], shown.now))) }
+{
+    let mut done = tree;
+    if shown.is_null() {
+        done.put_child(alloc, key, Tree::leaf(Leaf::truth(true)))?;
+    }
+    done.put_child(alloc, key, shown.copy(alloc)?)?;
+    Ok(done)
 }
 
 // ---- what the pending writes lay over a tree, spot by spot: of each path the last tree alone

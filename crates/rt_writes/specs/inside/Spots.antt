@@ -202,6 +202,13 @@ is_later (Some m) j = nat_lt m j
 abbrev pub HasLater : Option ℕ → BTreeSet ℕ → Type 0
 HasLater last numbers = (j : ℕ) × (is_later last j ≡ true) × (contains nat_cmp numbers j ≡ true)
 
+-- the tree that is kept at the spot is all that shows there of what is after the last one: the last
+-- write that sets the whole of what stands there is, and one that sets something
+pub record IsShown (s : Spot) (last here : Option ℕ) (t : PathTree) : Type 0 where
+  pub tree : (under_of s).tree ≡ Some t
+  pub later : option_map_or (is_later last) here false ≡ true
+  pub full : HasLater last (under_of s).full
+
 -- the writes with later numbers
 abbrev pub after : Option ℕ → List Write → List Write
 after last writes = filter (λ w. is_later last w.id) writes

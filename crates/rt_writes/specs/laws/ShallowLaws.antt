@@ -55,7 +55,7 @@ shallow-overlaid p t a fits h g =
     ] refl
 
 -- all entries, one after another
-shallow-fold : (p : Path) (entries : List Assignment) (t : PathTree) → length p ≤ MAX_LEVELS
+pub shallow-fold : (p : Path) (entries : List Assignment) (t : PathTree) → length p ≤ MAX_LEVELS
     → IsShallow (p, t) → All IsShallow entries → IsShallow (p, fold (overlaid p) t entries)
 shallow-fold p [] t fits h g = h
 shallow-fold p (a ∷ entries) t fits h g =

@@ -40,5 +40,5 @@ loop-child-preserved t c =
 
 pub returns-clause-laid : goal.returns-clause-laid
 returns-clause-laid t c =
-    laid_all c.args.writes.now.items c.args.spot.now c.args.last c.args.path.now c.args.tree c.loop-child.done c.loop-child.child-iterator
-    c.in-None.ensures.steps.0 c.loop-child.invariant.0
+    λ x. laid_all x c.args.writes.now.items c.args.spot.now c.args.last c.args.path.now c.args.tree c.loop-child.done c.loop-child.child-iterator
+    c.in-None.ensures.steps.0 (c.loop-child.invariant.0 x)
