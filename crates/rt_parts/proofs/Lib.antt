@@ -4,6 +4,7 @@ pub mod HeldLaws
 pub mod IndexLaws
 pub mod KnownLaws
 pub mod Loops
+pub mod MetLaws
 pub mod NamedLaws
 pub mod Numbered
 pub mod Pendings

@@ -35,7 +35,7 @@ same_tests true b f g = sym (f refl)
 same_tests false true f g = g refl
 same_tests false false f g = refl
 
-or_yes : (a b : Bool) → b ≡ true → (a || b) ≡ true
+pub or_yes : (a b : Bool) → b ≡ true → (a || b) ≡ true
 or_yes true b e = refl
 or_yes false b e = e
 

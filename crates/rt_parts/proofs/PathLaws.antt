@@ -1,12 +1,11 @@
 -- Paths at, above and under a path, among those in order.
-use Rattle.std.proofs.Common.{◌≡◌, ℕ, ◌<◌, Bool, true, false, cond, ◌||◌, ◌&&◌, nat_lt, List, [], ◌∷◌, ◌++◌, length, take, refl, sym, ap, subst, ◌∙◌, arith, None, is_some}
+use Rattle.std.proofs.Common.{◌≡◌, true, false, cond, [], ◌∷◌, refl, sym, ap, subst, ◌∙◌, None, is_some}
 use mathlib.Core.Bool.{true≢false}
 use Rattle.std.specs.Ordering.{is_lt, is_eq, ordering_then, ordering_reverse}
 use Rattle.std.specs.declared.cmp.Ordering.TheVariants.{Less, Equal, Greater}
-use Rattle.std.proofs.lemmas.Bool.{lt-ltb}
-use Rattle.rt_tree.specs.PathTree.{Path, path_cmp, paths_total, exact_paths, key_cmp, key_eq, key_eq-is, key_eq-symm, strip, strip-some}
+use Rattle.rt_tree.specs.PathTree.{Path, path_cmp, paths_total, exact_paths, key_cmp, key_eq, key_eq-is, key_eq-symm, strip}
 use Rattle.rt_tree.specs.Assignments.{is_at_or_above}
-use Rattle.rt_cover.specs.laws.Paths.{is_at_or_above-same, rest_of_above}
+use Rattle.rt_cover.specs.laws.Paths.{is_at_or_above-same}
 
 -- what is at or above a path is not behind it
 pub above_first : (r p : Path) → is_at_or_above r p ≡ true → is_lt (path_cmp p r) ≡ false
@@ -46,36 +45,3 @@ under_from r s p a b c =
       | Equal ↦ λ e. subst (λ z. is_at_or_above r z ≡ true) (exact_paths r s e) (is_at_or_above-same r)
       | Greater ↦ λ e. absurd (true≢false (sym (ap is_lt (paths_total.antisymm s r ∙ ap ordering_reverse e)) ∙ b))
     ] refl
-
-take_all : (p r : Path) → take (length p) (p ++ r) ≡ p
-take_all [] [] = refl
-take_all [] (k ∷ r) = refl
-take_all (k ∷ p) r = ap (λ z. k ∷ z) (take_all p r)
-
--- a path above another is the first part of it
-pub first_part : (p q : Path) → is_at_or_above p q ≡ true → take (length p) q ≡ p
-first_part p q e = let rest = rest_of_above p q e in ap (take (length p)) (strip-some p q rest.0 rest.1) ∙ take_all p rest.0
-
--- a path at or above another is it, or is shorter
-pub above_or_same : (p q : Path) → is_at_or_above p q ≡ true → (is_at_or_above q p || (is_at_or_above p q && nat_lt (length p) (length q))) ≡ true
-above_or_same p q e = let rest = rest_of_above p q e in by_rest rest.0 (strip-some p q rest.0 rest.1)
-  where
-    longer : (p : Path) (k : List ℕ) (r : Path) → length p < length (p ++ k ∷ r)
-    longer [] k r = omega arith
-    longer (j ∷ p) k r = let l = longer p k r in omega (arith, l)
-
-    nothing : (p : Path) → p ++ [] ≡ p
-    nothing [] = refl
-    nothing (k ∷ p) = ap (λ z. k ∷ z) (nothing p)
-
-    or_true : (b : Bool) → (b || true) ≡ true
-    or_true true = refl
-    or_true false = refl
-
-    by_rest : (r : Path) → q ≡ p ++ r → (is_at_or_above q p || (is_at_or_above p q && nat_lt (length p) (length q))) ≡ true
-    by_rest [] f = ap (λ b. b || (is_at_or_above p q && nat_lt (length p) (length q))) (subst (λ z. is_at_or_above z p ≡ true) (sym (f ∙ nothing p)) (is_at_or_above-same p))
-    by_rest (k ∷ r) f =
-        let long : length p < length q = subst (λ z. length p < length z) (sym f) (longer p k r) in
-        ap (λ b. is_at_or_above q p || (b && nat_lt (length p) (length q))) e
-        ∙ ap (λ b. is_at_or_above q p || b) (lt-ltb (length p) (length q) long)
-        ∙ or_true (is_at_or_above q p)

@@ -300,30 +300,3 @@ module _ {P : Type 0} (C : P → P → Ordering) (o : IsTotalOrder C) where
                     ap (λ n. not (is_eq (pair_cmp (key (get_or xs n d)) to))) same ∙ ap not (other d (omega (arith, same, lt)))
               ] refl
         ] refl)
-
-    -- ---- those under a path
-
-    module _ (above : P → P → Bool) (at_first : (r p : P) → above r p ≡ true → is_lt (C p r) ≡ false)
-        (between : (r s p : P) → above r p ≡ true → is_lt (C s r) ≡ false → is_lt (C p s) ≡ false → above r s ≡ true) where
-      pub under_first : (p : P) (ls rest : List X) (first : ℕ) → rest ≡ drop first ls → AreUp ls
-          → first ≤ length ls
-          → IsPartitionPoint (λ x. is_lt (pair_cmp (key x) (p, 0)) ≡ true) (λ x. is_lt (pair_cmp (key x) (p, 0)) ≡ false) ls first
-          → IsPartitionedBy (λ x. above p (key x).0) rest
-      under_first p ls rest first is up within a i j d le lt e = elim (nat_lt i j) as (λ b. nat_lt i j ≡ b → above p (key (get_or rest i d)).0 ≡ true) [
-        | true ↦ λ f.
-            let l : i < j = ltb-true i j f in
-            let long : j < length (drop first ls) = omega (arith, lt, ap length is) in
-            let fit : first + i < length ls = omega (arith, l, long, length-drop first ls, within) in
-            let pairs : AreUp rest = subst AreUp (sym is) (up_drop first ls up) in
-            let there : get_or rest i d ≡ get_or ls (first + i) d = ap (λ z. get_or z i d) is ∙ get_or-drop first ls i d in
-            between p (key (get_or rest i d)).0 (key (get_or rest j d)).0 e
-            (ap (λ x. is_lt (C (key x).0 p)) there ∙ behind_path p (get_or ls (first + i) d) (a.1 (first + i) d (omega arith) fit))
-            (path_up (get_or rest i d) (get_or rest j d) (pairs i j d l lt))
-        | false ↦ λ f.
-            let ge : j ≤ i = ltb-false i j f in
-            let same : i ≡ j = omega (arith, ge, le) in
-            ap (λ k. above p (key (get_or rest k d)).0) same ∙ e
-      ] refl
-
-      pub under_not_before : (p : P) (x : X) → above p (key x).0 ≡ true → is_lt (pair_cmp (key x) (p, 0)) ≡ false
-      under_not_before p x e = path_not_before p x (at_first p (key x).0 e)

@@ -1,8 +1,9 @@
 -- One child that a query sees.
-use Rattle.std.proofs.Common.{◌≡◌, Bool, true, false, cond, not, ◌&&◌, [], ◌∷◌, ◌++◌, List, refl, sym, ap, ◌∙◌, Option, Some, None}
+use Rattle.std.proofs.Common.{◌≡◌, Bool, true, false, cond, not, ◌&&◌, ◌||◌, [], ◌∷◌, ◌++◌, List, length, length-append, ◌+◌, ◌≤◌, arith, refl, sym, ap, subst, ◌∙◌, Option, Some, None}
 use mathlib.Core.Bool.{true≢false}
+use Rattle.std.specs.Prelude.{IfSome}
 use Rattle.std.specs.Option.{option_map}
-use Rattle.rt_tree.specs.PathTree.{Key, PathTree, child, leaf_at-null, leaf_at-sub, null, same_tree, with_children}
+use Rattle.rt_tree.specs.PathTree.{Key, Path, PathTree, child, is_null, leaf_at-null, leaf_at-sub, levels, null, null_of_is_null, same_tree, with_children}
 use Rattle.rt_tree.specs.Parts.{child-with_children}
 use Rattle.rt_query.specs.Queries.{Query, is_filtered}
 use Rattle.rt_writes.specs.Writes.{Write, overlay}
@@ -23,6 +24,11 @@ tree_child (Some x) k = refl
 pub whole_child : (o : Option Base) (k : Key) → is_base_whole (option_map (child_base k) o) ≡ is_base_whole o
 whole_child None k = refl
 whole_child (Some x) k = refl
+
+-- a child has fewer levels than its path may have keys
+pub few_levels : (o : Option Base) (p : Path) (k : Key) → IfSome o (λ (b : Base). length (p ++ k ∷ []) + levels b.tree ≤ 33) → IfSome o (λ (b : Base). levels b.tree ≤ 32)
+few_levels None p k h = tt
+few_levels (Some b) p k h = omega (arith, h, length-append p (k ∷ []))
 
 module _ (law : OverlayOfChild) (q : Query) (o : Option Base) (ws : List Write) (k : Key) where
   abbrev over : PathTree
@@ -53,3 +59,15 @@ module _ (law : OverlayOfChild) (q : Query) (o : Option Base) (ws : List Write) 
 
   pub shown_child : (partial && not (is_child_known (base_tree o) ws q.path k)) ≡ false → over ≡ child (seen_over o ws q) k
   shown_child e = shown_by partial (is_child_known (base_tree o) ws q.path k) e ∙ sym child_seen
+
+-- a child that is there is known, and another is null
+bare_by : (partial : Bool) (t : PathTree) (b : Bool) → is_null t ≡ b → t ≡ cond partial (cond (not (is_null t) || false) t null) t
+bare_by true t true e = null_of_is_null t e ∙ sym (ap (λ b. cond (not b || false) t null) e)
+bare_by true t false e = sym (ap (λ b. cond (not b || false) t null) e)
+bare_by false t b e = refl
+
+-- where nothing is pending it is what is brought of it
+pub bare_child : (law : OverlayOfChild) (q : Query) (o : Option Base) (ws : List Write) (k : Key) → ws ≡ [] → child (base_tree o) k ≡ child (seen_over o ws q) k
+bare_child law q o ws k none =
+    subst (λ vs. child (base_tree o) k ≡ child (seen_over o vs q) k) (sym none)
+    (bare_by (is_filtered q && not (is_base_whole o)) (child (base_tree o) k) (is_null (child (base_tree o) k)) refl ∙ sym (child_seen law q o [] k))

@@ -1,11 +1,10 @@
 // Which entries meet which listeners, so that each listener is handed its own entries and no others.
 ghost use Rattle.std.specs.Prelude.{◌≡◌, ◌≤◌, ◌<◌, ◌++◌, ◌==◌, ◌&&◌, ℕ, Bool, true, false, length, map, IfOk};
 ghost use Rattle.std.specs.Prelude.{OnOk};
-ghost use Rattle.std.specs.List.{All, AllPairs, list_any};
+ghost use Rattle.std.specs.List.{AllPairs, list_any};
 ghost use Rattle.std.specs.List.Sorted.{IsPartitionPoint};
 ghost use Rattle.std.specs.Ordering.{is_le, is_lt, nat_cmp};
-ghost use Rattle.rt_tree.specs.Assignments.{do_overlap};
-ghost use Rattle.rt_parts.specs.inside.Pairs.{AreUp, HaveAll, HavePairs, KeepsPairs, met_cmp};
+ghost use Rattle.rt_parts.specs.inside.Pairs.{AreUp, HaveAll, HavePairs, met_cmp};
 ghost use Rattle.rt_parts.specs.inside.Placed.{AreInOrder};
 
 use crate::places::{ListenerPlace, push_met, sort_once};
@@ -23,24 +22,6 @@ fn push_each(pairs: &mut Vec<(u64, usize)>, numbers: &[u64], entry: usize) -> Re
     Ok(())
 }
 
-// Adds the pairs of an entry of that path with those that it meets.
-fn push_pairs(
-    alloc: Global,
-    pairs: &mut Vec<(u64, usize)>,
-    places: &[ListenerPlace],
-    path: &Path,
-    entry: usize,
-) -> Result<(), AllocError>
-    requires { AreInOrder places.now }
-    ensures kept { OnOk result (KeepsPairs pairs.old.items pairs.new.items) }
-    ensures all { OnOk result (All (λ x. do_overlap path.now x.path ≡ true
-        → list_any (λ o. x.number == o.0 && entry == o.1) pairs.new.items ≡ true) places.now) }
-{
-    let mut numbers = Vec::new(alloc);
-    push_met(&mut numbers, places, path)?;
-    push_each(pairs, &numbers, entry)
-}
-
 // Sorts the pairs, each once.
 fn sort_pairs(pairs: &mut Vec<(u64, usize)>)
     ensures up { AreUp pairs.new.items }
@@ -51,8 +32,7 @@ fn sort_pairs(pairs: &mut Vec<(u64, usize)>)
 }
 
 // The pairs of listeners, by number, and of the entries that meet their paths, in order. Of an entry
-// it looks for its path and for each path above, and goes over those that stand there and at or under
-// it.
+// it looks for its path, and goes over those that stand above, at or under it.
 pub(crate) fn pairs_met(
     alloc: Global,
     places: &[ListenerPlace],
@@ -65,7 +45,7 @@ pub(crate) fn pairs_met(
     let mut pairs = Vec::new(alloc);
     for at in 0..entries.len() {
         let entry = &entries[at];
-        push_pairs(alloc, &mut pairs, places, &entry.0, at)?;
+        push_met(&mut pairs, places, &entry.0, at)?;
     }
     sort_pairs(&mut pairs);
     Ok(pairs)

@@ -111,8 +111,8 @@ impl Listeners {
     /// Takes anew what the entries meet, and tells the seats what changes. A view below whose path
     /// all of them lie is touched with the children that they name, where an object stays, and costs
     /// by these; any other view that one meets is taken from scratch, and a listener without one gets
-    /// its first, where something is known for it. No other listener is looked at: those that an entry
-    /// meets are found by halving, at its path, at each path above it, and below. Of each the entries
+    /// its first, where something is known for it. No other listener is looked at: the path of an entry is
+    /// found among theirs by halving, and those that it meets are found from there. Of each the entries
     /// that meet it are looked at, and no others.
     ///
     /// `range` is the range on whose listen all of them are pushed, if they are pushed so. Then the

@@ -1,13 +1,15 @@
 // Where listeners stand by path: those that entries meet are found by halving.
-ghost use Rattle.std.specs.Prelude.{◌≡◌, ◌≤◌, ◌<◌, ◌++◌, ◌||◌, ◌&&◌, ℕ, Bool, true, false, not};
-ghost use Rattle.std.specs.Prelude.{length, map, nat_lt, vec_len, vec_capacity, OnOk};
+ghost use Rattle.std.specs.Prelude.{◌≡◌, ◌≤◌, ◌<◌, ◌++◌, ◌||◌, ℕ, Bool, true, false, not};
+ghost use Rattle.std.specs.Prelude.{length, map, vec_len, vec_capacity, IfOk, OnOk, take};
 ghost use Rattle.std.specs.List.{All, AllPairs, filter, list_any};
 ghost use Rattle.std.specs.List.Sorted.{IsPartitionPoint};
 ghost use Rattle.std.specs.Ordering.{is_eq, is_le, is_lt};
-ghost use Rattle.rt_tree.specs.PathTree.{path_cmp, path_eq};
+ghost use Rattle.rt_tree.specs.PathTree.{Path as Keys, path_cmp, path_eq};
 ghost use Rattle.rt_tree.specs.Assignments.{do_overlap, is_at_or_above};
 ghost use Rattle.rt_parts.specs.declared.places.ListenerPlace.{ListenerPlace};
-ghost use Rattle.rt_parts.specs.inside.Placed.{AreInOrder, HaveNumbers, Keeps, stand_cmp, stand_of};
+ghost use Rattle.rt_parts.specs.inside.Pairs.{KeepsPairs};
+ghost use Rattle.rt_parts.specs.inside.Placed.{AreInOrder, HaveFrom, HaveNumbers, Keeps, is_paired};
+ghost use Rattle.rt_parts.specs.inside.Placed.{stand_cmp, stand_of};
 
 use rt_tree::{Key, Path};
 use std::alloc::AllocError;
@@ -87,6 +89,73 @@ pub(crate) fn push_at(
     push_numbers(numbers, &rest[..count])
 }
 
+// How many keys both begin with.
+fn shared(left: &[Key], right: &[Key]) -> usize
+    ensures within { result ≤ length right.now }
+    ensures most { (r : Keys) → is_at_or_above r left.now ≡ true → is_at_or_above r right.now ≡ true
+        → is_at_or_above r (take result right.now) ≡ true }
+{
+    let Some((key, keys)) = left.split_first() else {
+        return 0;
+    };
+    let Some((other, others)) = right.split_first() else {
+        return 0;
+    };
+    if key != other {
+        return 0;
+    }
+    shared(keys, others) + 1
+}
+
+// Adds the pair of the last one with the entry, if its path is at or above this one, and answers how
+// many of those in front of it may stand there too: those that stand at the keys that both paths
+// begin with, or in front.
+fn push_last(
+    pairs: &mut Vec<(u64, usize)>,
+    places: &[ListenerPlace],
+    path: &Path,
+    entry: usize,
+) -> Result<usize, AllocError>
+    requires order { AreInOrder places.now }
+    requires front { All (λ x. is_lt (path_cmp path.now x.path) ≡ false) places.now }
+    requires some { 0 < length places.now }
+    ensures fewer { IfOk result (λ left. left < length places.now) }
+    ensures kept { OnOk result (KeepsPairs pairs.old.items pairs.new.items) }
+    ensures all { IfOk result (λ left. HaveFrom (λ x. is_at_or_above x.path path.now)
+        (is_paired entry pairs.new.items) places.now left) }
+{
+    let end = places.len() - 1;
+    let last = &places[end];
+    if last.path.is_prefix_of(path) {
+        pairs.push((last.number, entry))?;
+        return Ok(end);
+    }
+    let keys = path.keys();
+    let first = &keys[..shared(last.path.keys(), keys)];
+    Ok(places[..end].partition_point(|place| is_not_behind(place, first)))
+}
+
+// Adds the pairs of an entry with those at or above its path, in front of which all of these stand.
+// Where the last one is not above it, the next that may be is found by halving.
+fn push_above(
+    pairs: &mut Vec<(u64, usize)>,
+    places: &[ListenerPlace],
+    path: &Path,
+    entry: usize,
+) -> Result<(), AllocError>
+    requires order { AreInOrder places.now }
+    requires front { All (λ x. is_lt (path_cmp path.now x.path) ≡ false) places.now }
+    ensures kept { OnOk result (KeepsPairs pairs.old.items pairs.new.items) }
+    ensures all { OnOk result (HaveFrom (λ x. is_at_or_above x.path path.now)
+        (is_paired entry pairs.new.items) places.now 0) }
+{
+    let mut left = places.len();
+    while left > 0 {
+        left = push_last(pairs, &places[..left], path, entry)?;
+    }
+    Ok(())
+}
+
 // Whether its path is at or under this one.
 fn is_under(place: &ListenerPlace, path: &Path) -> bool
     ensures { result ≡ is_at_or_above path.now place.now.path }
@@ -94,54 +163,54 @@ fn is_under(place: &ListenerPlace, path: &Path) -> bool
     path.is_prefix_of(&place.path)
 }
 
-// Adds the numbers of those at or under a path.
-fn push_under(
-    numbers: &mut Vec<u64>,
+// Adds a pair of each of these with the entry.
+fn push_all(
+    pairs: &mut Vec<(u64, usize)>,
     places: &[ListenerPlace],
-    path: &Path,
+    entry: usize,
 ) -> Result<(), AllocError>
-    requires { AreInOrder places.now }
-    ensures kept { OnOk result (Keeps numbers.old.items numbers.new.items) }
-    ensures all { OnOk result (HaveNumbers (λ x. is_at_or_above path.now x.path)
-        numbers.new.items places.now) }
+    ensures { OnOk result (pairs.new.items
+        ≡ pairs.old.items ++ map (λ x. (x.number, entry)) places.now) }
 {
-    let first = first_from(places, path.keys(), 0);
-    let rest = &places[first..];
-    let count = rest.partition_point(|place| is_under(place, path));
-    push_numbers(numbers, &rest[..count])
-}
-
-// Adds the numbers of those above a path.
-fn push_above(
-    numbers: &mut Vec<u64>,
-    places: &[ListenerPlace],
-    path: &[Key],
-) -> Result<(), AllocError>
-    requires { AreInOrder places.now }
-    ensures kept { OnOk result (Keeps numbers.old.items numbers.new.items) }
-    ensures all { OnOk result (HaveNumbers
-        (λ x. is_at_or_above x.path path.now && nat_lt (length x.path) (length path.now))
-        numbers.new.items places.now) }
-{
-    for count in 0..path.len() {
-        push_at(numbers, places, &path[..count])?;
+    for place in places {
+        pairs.push((place.number, entry))?;
     }
     Ok(())
 }
 
-// Adds the numbers of those at, above and under a path.
-pub(crate) fn push_met(
-    numbers: &mut Vec<u64>,
+// Adds the pairs of an entry with those at or under its path, none of which stands in front of it.
+fn push_under(
+    pairs: &mut Vec<(u64, usize)>,
     places: &[ListenerPlace],
     path: &Path,
+    entry: usize,
+) -> Result<(), AllocError>
+    requires order { AreInOrder places.now }
+    requires behind { All (λ x. is_lt (path_cmp x.path path.now) ≡ false) places.now }
+    ensures kept { OnOk result (KeepsPairs pairs.old.items pairs.new.items) }
+    ensures all { OnOk result (HaveFrom (λ x. is_at_or_above path.now x.path)
+        (is_paired entry pairs.new.items) places.now 0) }
+{
+    let count = places.partition_point(|place| is_under(place, path));
+    push_all(pairs, &places[..count], entry)
+}
+
+// Adds the pairs of an entry with those at, above and under its path, which is found once: those
+// above it stand in front, the nearest last.
+pub(crate) fn push_met(
+    pairs: &mut Vec<(u64, usize)>,
+    places: &[ListenerPlace],
+    path: &Path,
+    entry: usize,
 ) -> Result<(), AllocError>
     requires { AreInOrder places.now }
-    ensures kept { OnOk result (Keeps numbers.old.items numbers.new.items) }
-    ensures all { OnOk result (HaveNumbers (λ x. do_overlap path.now x.path)
-        numbers.new.items places.now) }
+    ensures kept { OnOk result (KeepsPairs pairs.old.items pairs.new.items) }
+    ensures all { OnOk result (All (λ x. do_overlap path.now x.path ≡ true
+        → is_paired entry pairs.new.items x ≡ true) places.now) }
 {
-    push_above(numbers, places, path.keys())?;
-    push_under(numbers, places, path)
+    let first = first_from(places, path.keys(), 0);
+    push_above(pairs, &places[..first], path, entry)?;
+    push_under(pairs, &places[first..], path, entry)
 }
 
 // Sorts the numbers, each once.

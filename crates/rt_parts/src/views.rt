@@ -377,8 +377,7 @@ fn unknown_keys(
 fn take_child(alloc: Global, tree: &mut Tree, key: &Key) -> Result<(), AllocError>
     ensures { OnOk result (tree.new ≡ without_child tree.old key.now) }
 {
-    let path = Path::root(alloc).child(key).map_err(|_| AllocError)?;
-    tree.put(alloc, &path, Tree::null()).map_err(|_| AllocError)
+    tree.put_child(alloc, key, Tree::null())
 }
 
 // What is seen, without the children that are not known. It looks at each child once, and changes
@@ -501,6 +500,18 @@ fn path_of_child(path: &Path, key: &Key) -> Result<Path, AllocError>
     path.child(key).map_err(|_| AllocError)
 }
 
+// The tree that is brought of a child; nothing is null.
+fn child_tree(base: Option<Base>) -> Tree
+    requires { IfSome base (λ b. levels b.tree ≤ MAX_KEYS) }
+    ensures tree { result ≡ base_tree base }
+    ensures levels { levels result ≤ MAX_KEYS }
+{
+    match base {
+        Some(base) => base.tree,
+        None => Tree::null(),
+    }
+}
+
 // Whether the query doesn't see a child, of which this is brought: it is filtered, not all is brought,
 // and the child is not known.
 fn is_hidden(pending: &Pending, query: &Query, key: &Key, whole: bool, child: &Tree) -> bool
@@ -511,7 +522,8 @@ fn is_hidden(pending: &Pending, query: &Query, key: &Key, whole: bool, child: &T
     query.is_filtered() && !whole && child.is_null() && !pending.sets_child_whole(query.path(), key)
 }
 
-// The child of that key as the query sees it, taken alone.
+// The child of that key as the query sees it, taken alone. Where nothing is pending that is what is
+// brought of it.
 fn seen_child(
     brought: &Brought,
     pending: &Pending,
@@ -525,6 +537,9 @@ fn seen_child(
     // For the prover: a child of an overlaid tree is the child, overlaid.
     overlay_law();
     let base = brought.base_child(query, key)?;
+    if pending.is_empty() {
+        return Ok(child_tree(base));
+    }
     let whole = is_whole(&base);
     let path = path_of_child(query.path(), key)?;
     let tree = tree_of(&path, base);

@@ -1,10 +1,10 @@
 -- Where listeners stand by path.
-use Rattle.std.specs.Prelude.{◌≡◌, ℕ, Bool, true, List, map}
+use Rattle.std.specs.Prelude.{◌≡◌, ◌≤◌, ◌<◌, ℕ, Bool, true, List, get_or, length, map}
 use Rattle.std.specs.declared.cmp.Ordering.{Ordering}
 use Rattle.std.specs.declared.cmp.Ordering.TheVariants.{Less}
 use Rattle.std.specs.List.{All, AllPairs, list_any}
 use Rattle.std.specs.Ordering.{nat_cmp, ordering_then}
-use Rattle.std.specs.Prelude.{◌==◌}
+use Rattle.std.specs.Prelude.{◌==◌, ◌&&◌}
 use Rattle.rt_tree.specs.PathTree.{Path, path_cmp, path_eq}
 use Rattle.rt_query.specs.Queries.{Query}
 use Rattle.rt_parts.specs.declared.listeners.HeldListener.{HeldListener}
@@ -39,6 +39,16 @@ Keeps old new = (p : ℕ → Bool) → list_any p old ≡ true → list_any p ne
 abbrev pub HaveNumbers : (ListenerPlace → Bool) → List ℕ → List ListenerPlace → Type 0
 HaveNumbers test numbers places =
     All (λ x. test x ≡ true → list_any (λ n. x.number == n) numbers ≡ true) places
+
+-- whether the place has a pair with the entry among these
+abbrev pub is_paired : ℕ → List (ℕ × ℕ) → ListenerPlace → Bool
+is_paired entry pairs x = list_any (λ o. x.number == o.0 && entry == o.1) pairs
+
+-- of the places from one on those that pass are found
+abbrev pub HaveFrom : (ListenerPlace → Bool) → (ListenerPlace → Bool) → List ListenerPlace → ℕ → Type 0
+HaveFrom test found places from =
+    (k : ℕ) (d : ListenerPlace) → from ≤ k → k < length places → test (get_or places k d) ≡ true
+    → found (get_or places k d) ≡ true
 
 -- the numbers of those at the paths of these queries are among these
 abbrev pub HaveAt : List Query → List ℕ → List ListenerPlace → Type 0

@@ -17,9 +17,9 @@ loop-at-preserved c =
     let within : i < length c.args.entries.now = search rules in
     let d : Assignment = c.index-entries-at.result in
     let here : d ≡ get_or c.args.entries.now i d = search rules in
-    pairs_more c.args.places.now c.loop-at.pairs.items c.push_pairs.new.pairs.items c.args.entries.now i d.0 within
+    pairs_more c.args.places.now c.loop-at.pairs.items c.push_met.new.pairs.items c.args.entries.now i d.0 within
     (λ a. ap (λ (z : Assignment). z.0) (get_or_any c.args.entries.now i a d within ∙ sym here))
-    c.in_ok-push_pairs.ensures.kept c.in_ok-push_pairs.ensures.all c.loop-at.invariant
+    c.in_ok-push_met.ensures.kept c.in_ok-push_met.ensures.all c.loop-at.invariant
 
 pub returns-clause-all : goal.returns-clause-all
 returns-clause-all c =

@@ -1,11 +1,16 @@
-use Rattle.std.proofs.Common.{◌&&◌, nat_lt, length}
+use Rattle.std.proofs.Common.{◌≤◌, length}
 use Rattle.rt_tree.specs.Assignments.{is_at_or_above}
-use Rattle.rt_parts.specs.inside.Placed.{HaveNumbers, Keeps}
+use Rattle.rt_parts.specs.inside.Pairs.{KeepsPairs}
+use Rattle.rt_parts.specs.inside.Placed.{HaveFrom, is_paired}
 use Rattle.rt_parts.proofs.places.push_above.Given as goal
 
--- those of the paths so far
-abbrev pub invariant-loop-count : goal.invariant-loop-count
-invariant-loop-count l = record {
-  kept : Keeps l.initial.numbers.items l.numbers.items;
-  all : HaveNumbers (λ x. is_at_or_above x.path l.path && nat_lt (length x.path) l.count) l.numbers.items l.places;
+-- the others are done
+abbrev pub invariant-loop-left : goal.invariant-loop-left
+invariant-loop-left l = record {
+  within : l.left ≤ length l.places;
+  kept : KeepsPairs l.initial.pairs.items l.pairs.items;
+  all : HaveFrom (λ x. is_at_or_above x.path l.path) (is_paired l.entry l.pairs.items) l.places l.left;
 }
+
+abbrev pub decreases-loop-left : goal.decreases-loop-left
+decreases-loop-left l = l.left

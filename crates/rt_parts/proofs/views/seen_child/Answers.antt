@@ -4,8 +4,19 @@ use Rattle.rt_query.specs.Queries.{is_filtered}
 use Rattle.rt_writes.specs.Writes.{overlay, sets_child_whole}
 use Rattle.rt_cache.specs.Brought.{base}
 use Rattle.rt_world.specs.Views.{base_tree, is_base_whole}
-use Rattle.rt_parts.proofs.SeenLaws.{hidden_child, shown_child, tree_child, whole_child}
+use Rattle.rt_parts.proofs.SeenLaws.{bare_child, few_levels, hidden_child, shown_child, tree_child, whole_child}
 use Rattle.rt_parts.proofs.views.seen_child.Goals as goal
+
+pub child_tree-requires : goal.child_tree-requires
+child_tree-requires c = few_levels c.in_ok-base.base c.args.query.now.path c.args.key.now c.in_ok-base.ensures.shallow
+
+pub returns-then-is_empty-clause-child : goal.returns-then-is_empty-clause-child
+returns-then-is_empty-clause-child c =
+    let q = c.args.query.now in
+    let k = c.args.key.now in
+    let o = base c.args.brought.now q in
+    let none : c.args.pending.now ≡ [] = c.is_empty.ensures.0 c.if-is_empty.true in
+    c.child_tree.ensures.tree ∙ ap base_tree c.in_ok-base.ensures.found ∙ tree_child o k ∙ bare_child c.overlay_law.ensures.child q o c.args.pending.now k none
 
 pub returns-then-is_hidden-clause-child : goal.returns-then-is_hidden-clause-child
 returns-then-is_hidden-clause-child c =
