@@ -11,6 +11,7 @@ pub mod Moved
 pub mod MovingLaws
 pub mod NextWorlds
 pub mod PlacesLeft
+pub mod PushesMade
 pub mod PushedTags
 pub mod RefusalLaws
 pub mod TagLaws

@@ -38,7 +38,7 @@ use Rattle.rt_world.specs.Views.{is_known, seen_over, view_of}
 use Rattle.rt_world.specs.steps.Kind.{Part}
 use Rattle.rt_world.specs.laws.Steps.{StillIsQuiet}
 use Rattle.rt_parts.specs.Refreshed.{all_told_heard, hears, is_supplied_at, renewed_heard, told_heard}
-use Rattle.rt_sync.specs.inside.Pushed.{only_range, range_of}
+use Rattle.rt_sync.specs.inside.Pushed.{range_of}
 
 -- ---- a push on a range
 
@@ -125,13 +125,12 @@ unsupplied f q range none = at (does_supply f q) refl
 
 -- ---- the parts of a push
 
-abbrev pushed_by : Cover → Brought → List Part → Brought
+abbrev pub pushed_by : Cover → Brought → List Part → Brought
 pushed_by c b parts = fold (λ (x : Brought) (p : Part). option_map_or (λ q. fold (push q) x p.1) (option_map (λ (k : Tagged). k.form) (listen_at c p.0)) x) b parts
 
--- a query that hears of none has what it had
-pub unheard_base : (c : Cover) (b : Brought) (parts : List Part) (q : Query) → hears (only_range c parts) q ≡ false → base (pushed_by c b parts) q ≡ base b q
-unheard_base c b [] q none = absurd (true≢false none)
-unheard_base c b (p ∷ []) q none = at (option_map (λ (k : Tagged). k.form) (listen_at c p.0)) none
+-- a query that doesn't hear of a part, which is pushed alone, has what it had
+pub unheard_base : (c : Cover) (b : Brought) (p : Part) (q : Query) → hears (option_and_then range_of (option_map (λ (k : Tagged). k.form) (listen_at c p.0))) q ≡ false → base (pushed_by c b (p ∷ [])) q ≡ base b q
+unheard_base c b p q none = at (option_map (λ (k : Tagged). k.form) (listen_at c p.0)) none
   where
     on : (f : Query) (t : Bool) → is_filtered f ≡ t → hears (cond t (Some f) None) q ≡ false → base (fold (push f) b p.1) q ≡ base b q
     on f true e none = pushes_beside f q e (unsupplied f q e none) p.1 b
@@ -140,7 +139,6 @@ unheard_base c b (p ∷ []) q none = at (option_map (λ (k : Tagged). k.form) (l
     at : (o : Option Query) → hears (option_and_then range_of o) q ≡ false → base (option_map_or (λ f. fold (push f) b p.1) o b) q ≡ base b q
     at None none = absurd (true≢false none)
     at (Some f) none = on f (is_filtered f) refl none
-unheard_base c b (p ∷ r ∷ rest) q none = absurd (true≢false none)
 
 -- ---- listeners for whom the same is brought
 

@@ -14,7 +14,7 @@ ghost use Rattle.rt_world.specs.steps.Kind.{stands_too_deep};
 ghost use Rattle.rt_world.specs.steps.Pushing.{has_tag_twice, is_bad_part, is_idle, is_no_merge, is_no_push};
 ghost use Rattle.rt_world.specs.steps.Pushing.{is_within_listen};
 ghost use Rattle.rt_world.specs.laws.Made.{IsPushOn};
-ghost use Rattle.rt_sync.specs.inside.Pushed.{only_range, range_of};
+ghost use Rattle.rt_sync.specs.inside.Pushed.{range_of};
 
 use crate::state::{State, StepNews};
 use rt_cache::Brought;
@@ -25,6 +25,7 @@ use rt_wire::{Part, Parts, some_stands_too_deep, stands_too_deep};
 use rt_world::{CoreError, brought_law, note_law, push_law, pushed_law, stay_law, touch_law};
 use rt_writes::Entries;
 use std::alloc::{AllocError, Global};
+use std::slice::from_ref;
 
 // Of more parts than these the tags are sorted, where there is memory for a list of them.
 const MAX_UNSORTED: usize = 64;
@@ -129,17 +130,6 @@ fn range_at<'a>(cover: &'a Cover, tag: u64) -> Option<&'a Query>
     None
 }
 
-// The range on whose listen all is pushed, if it is one part on one.
-fn only_range<'a>(cover: &'a Cover, parts: &[Part]) -> Option<&'a Query>
-    ensures { option_copied result ≡ only_range cover.now parts.now }
-{
-    match parts {
-        [] => None,
-        [part] => range_at(cover, part.tag()),
-        [_, _, ..] => None,
-    }
-}
-
 // The entries of all parts, in order.
 fn entries_pushed(alloc: Global, parts: Parts) -> Result<Vec<(Path, Tree)>, AllocError>
     ensures { IfOk result (λ entries. entries.items ≡ entries_pushed parts) }
@@ -221,24 +211,6 @@ fn are_too_deep(parts: &[Part]) -> bool
     parts
         .iter()
         .any(|part| some_stands_too_deep(part.entries()))
-}
-
-// A list of one entry.
-fn one_entry(alloc: Global, path: Path, tree: Tree) -> Result<Entries, AllocError>
-    ensures { IfOk result (λ entries. entries ≡ (path, tree) ∷ []) }
-{
-    let mut entries = Vec::new(alloc);
-    entries.push((path, tree))?;
-    Ok(Entries::of(entries))
-}
-
-// A list of one part.
-fn one_part(alloc: Global, tag: u64, entries: Entries) -> Result<Parts, AllocError>
-    ensures { IfOk result (λ parts. parts ≡ (tag, entries) ∷ []) }
-{
-    let mut parts = Vec::new(alloc);
-    parts.push(Part::new(tag, entries))?;
-    Ok(Parts::of(parts))
 }
 
 impl State {
@@ -368,11 +340,11 @@ impl State {
             .all(|part| self.is_idle(part.tag(), part.entries()))
     }
 
-    // Parts are pushed, each on the listen with its tag: they show together. What is pushed on a range alone
-    // shows where that supplies.
-    pub(crate) fn take_push(&mut self, parts: Parts) -> Result<StepNews, AllocError>
-        requires { IsReady self.old (Step.Push parts) }
-        ensures { IfOk result (λ told. Makes self.old (Step.Push parts) self.new told) }
+    // Entries are pushed on the listen with that tag, as one part: they show together. What is pushed
+    // on a range shows where that supplies.
+    fn take_on(&mut self, tag: u64, entries: &[(Path, Tree)]) -> Result<StepNews, AllocError>
+        requires { IsReady self.old (Step.Push ((tag, entries.now) ∷ [])) }
+        ensures { IfOk result (λ told. Makes self.old (Step.Push ((tag, entries.now) ∷ [])) self.new told) }
     {
         // For the prover: what such a step leaves, what may be pushed, and whom nothing is told.
         push_law();
@@ -382,13 +354,37 @@ impl State {
         touch_law();
         note_law();
         let alloc = self.alloc();
+        put_on(&mut self.brought, &self.cover, tag, entries)?;
+        let range = range_at(&self.cover, tag);
+        let mut notes = Vec::new(alloc);
+        let pending = self.requests.pending();
+        self.listeners
+            .refresh(range, entries, &self.brought, pending, &mut notes)?;
+        Ok(StepNews { given: None, notes })
+    }
+
+    // Parts are pushed, each on the listen with its tag: they show together.
+    pub(crate) fn take_push(&mut self, parts: Parts) -> Result<StepNews, AllocError>
+        requires { IsReady self.old (Step.Push parts) }
+        ensures { IfOk result (λ told. Makes self.old (Step.Push parts) self.new told) }
+    {
+        if let [part] = parts.as_slice() {
+            return self.take_on(part.tag(), part.entries().as_slice());
+        }
+        // For the prover: what such a step leaves, what may be pushed, and whom nothing is told.
+        push_law();
+        pushed_law();
+        stay_law();
+        brought_law();
+        touch_law();
+        note_law();
+        let alloc = self.alloc();
         put_parts(&mut self.brought, &self.cover, parts.as_slice())?;
-        let range = only_range(&self.cover, parts.as_slice());
         let entries = entries_pushed(alloc, parts)?;
         let mut notes = Vec::new(alloc);
         let pending = self.requests.pending();
         self.listeners
-            .refresh(range, &entries, &self.brought, pending, &mut notes)?;
+            .refresh(None, &entries, &self.brought, pending, &mut notes)?;
         Ok(StepNews { given: None, notes })
     }
 
@@ -397,11 +393,10 @@ impl State {
         requires { IsReady self.old (Step.DataMerge tag entries) }
         ensures { IfOk result (λ told. Makes self.old (Step.DataMerge tag entries) self.new told) }
     {
-        let parts = one_part(self.alloc(), tag, entries)?;
-        self.take_push(parts)
+        self.take_on(tag, entries.as_slice())
     }
 
-    // A tree is pushed at a path, as a merge of one.
+    // A tree is pushed at a path: its entry alone is the part.
     pub(crate) fn take_data(
         &mut self,
         tag: u64,
@@ -411,7 +406,7 @@ impl State {
         requires { IsReady self.old (Step.Data tag path tree) }
         ensures { IfOk result (λ told. Makes self.old (Step.Data tag path tree) self.new told) }
     {
-        let entries = one_entry(self.alloc(), path, tree)?;
-        self.take_merge(tag, entries)
+        let entry = (path, tree);
+        self.take_on(tag, from_ref(&entry))
     }
 }

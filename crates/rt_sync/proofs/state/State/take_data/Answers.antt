@@ -1,17 +1,13 @@
-use Rattle.std.proofs.Common.{◌∷◌, [], IfOk, Result, Ok, Err, sym, subst}
+use Rattle.std.proofs.Common.{◌∷◌, [], IfOk, sym, subst}
+use Rattle.std.proofs.lemmas.Result.{IfOk-weaker}
 use Rattle.rt_world.specs.declared.step.Step.{Step}
 use Rattle.rt_sync.specs.declared.state.State.{State}
 use Rattle.rt_sync.specs.inside.States.{IsReady, Makes}
 use Rattle.rt_sync.proofs.state.State.take_data.Goals as goal
 
--- what is so of each good result
-of_ok : {X E : Type 0} (r : Result X E) (P Q : X → Type 0) → ((x : X) → P x → Q x) → IfOk r P → IfOk r Q
-of_ok (Ok x) P Q f p = f x p
-of_ok (Err e) P Q f p = p
-
-pub take_merge-requires : goal.take_merge-requires
-take_merge-requires c =
-    subst (λ es. IsReady c.args.self.now (Step.DataMerge c.args.tag es)) (sym c.in_ok-entries.ensures)
+pub take_on-requires : goal.take_on-requires
+take_on-requires c =
+    subst (λ es. IsReady c.args.self.now (Step.Push ((c.args.tag, es) ∷ []))) (sym c.from_ref.ensures.value)
     (record {
       tied = c.requires.tied;
       viewed = c.requires.viewed;
@@ -21,7 +17,7 @@ take_merge-requires c =
 pub returns : goal.returns
 returns c =
     let old : State = c.args.self.now in
-    let new : State = c.take_merge.new.self in
-    of_ok c.take_merge.result (λ told. Makes old (Step.DataMerge c.args.tag ((c.args.path, c.args.tree) ∷ [])) new told) (λ told. Makes old (Step.Data c.args.tag c.args.path c.args.tree) new told)
+    let new : State = c.take_on.new.self in
+    IfOk-weaker c.take_on.result (λ told. Makes old (Step.Push ((c.args.tag, (c.args.path, c.args.tree) ∷ []) ∷ [])) new told) (λ told. Makes old (Step.Data c.args.tag c.args.path c.args.tree) new told)
     (λ told m. record { tied = m.tied; next = record { world = m.next.world; given = m.next.given; notes = m.next.notes }; views = m.views })
-    (subst (λ es. IfOk c.take_merge.result (λ told. Makes old (Step.DataMerge c.args.tag es) new told)) c.in_ok-entries.ensures c.take_merge.ensures)
+    (subst (λ es. IfOk c.take_on.result (λ told. Makes old (Step.Push ((c.args.tag, es) ∷ [])) new told)) c.from_ref.ensures.value c.take_on.ensures)
