@@ -21,7 +21,7 @@ class Chatter {
     say(text) { return push(this.chat, `${this.name}: ${text}`); }
 }
 
-test("two clients", { timeout: 60000 }, async () => {
+test("two clients", { timeout: 600000 }, async () => {
     const [ann, bob] = [new Chatter("ann"), new Chatter("bob")];
     await Promise.all([ann.enter(), bob.enter()]);
     await until("both are here", () => String(ann.here) === "ann,bob" && String(bob.here) === "ann,bob");

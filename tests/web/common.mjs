@@ -9,8 +9,8 @@ export const kaltewi = await import(new URL("kaltewi.js", PACKAGE));
 export const read = file => readFileSync(file);
 export const pause = ms => new Promise(resolve => setTimeout(resolve, ms));
 
-/** Waits until something is so, and answers it. */
-export async function until(what, is, seconds = 30) {
+/** Waits until something is so, and answers it. The bound is far above what that takes on a machine that has other work. */
+export async function until(what, is, seconds = 120) {
     for (const end = Date.now() + seconds * 1000; ; await pause(20)) {
         const it = await is();
         if (it) return it;

@@ -7,7 +7,7 @@ import { createServer } from "node:http";
 import { createServer as createPort } from "node:net";
 import { tmpdir } from "node:os";
 import { Browser } from "./browser.mjs";
-import { PACKAGE, kaltewi, pause, read, until } from "./common.mjs";
+import { PACKAGE, kaltewi, read, until } from "./common.mjs";
 import { served, tree } from "./tree.mjs";
 const { Database, ref, set, get, push, remove, update, onValue, onDisconnect, goOffline } = kaltewi;
 
@@ -36,12 +36,12 @@ const pages = createServer((request, answer) => {
 });
 const chatOfReadme = () => /^```html\n([^]*?)^```/m.exec(read(new URL("README.md", PACKAGE)))[1].replace("ws://127.0.0.1:8080/", db);
 await new Promise(resolve => pages.listen(0, "127.0.0.1", resolve));
-const port = await new Promise(resolve => {
-    const it = createPort().listen(0, "127.0.0.1", () => {
-        const { port } = it.address();
-        it.close(() => resolve(port));
-    });
+// Whether nobody listens at a port. Of those from 10,000 to 29,999 the system gives none to a client, also while the emulate is started again.
+const isFree = port => new Promise(resolve => {
+    const it = createPort().on("error", () => resolve(false)).listen(port, "127.0.0.1", () => it.close(() => resolve(true)));
 });
+let port = 10000 + (process.pid % 20000);
+while (!(await isFree(port))) port = 10000 + ((port + 1) % 20000);
 const db = `ws://127.0.0.1:${port}/`, at = `http://127.0.0.1:${pages.address().port}`;
 let emulate;
 async function start() {
@@ -107,16 +107,14 @@ async function refusals(ann) {
     ok("a refused listener is cancelled, and a refused write is taken back before its promise is rejected");
 }
 
-// Kills the emulate, waits for something, and starts it again.
+// Kills the emulate, waits for something, and starts it again. What was accepted before stands in its file's journal.
 async function restart(wait) {
-    await pause(1500); // the tree is in the file within a second
     await kill();
     await wait();
     await start();
 }
 
 async function again(ann, bob) {
-    await pause(1500); // the tree is in the file within a second
     await kill();
     await ann.until("document.getElementById('up').innerText === 'no connection'");
     await ann.run("window.kept = 'waits'; kaltewi.set(kaltewi.child(chat, 'm9'), 'written offline').then(() => { kept = 'ok' }, why => { kept = why.code }); 0");
@@ -158,6 +156,7 @@ async function example(browser) {
     const node = new Database(db);
     await remove(ref(node, "chat"));
     const [ann, bob] = [await open("name=ann"), await open("name=bob")];
+    for (const it of [ann, bob]) await it.until("document.getElementById('form').onsubmit !== null"); // a script waits for its module beyond the load
     await ann.type("hi, <b>all</b>\n");
     await shows(bob, "ann: hi, <b>all</b>");
     await bob.type("hello\n");

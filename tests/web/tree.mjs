@@ -147,8 +147,9 @@ async function connections(page, other, node, url) {
     const best = JSON.stringify('/page/b {"limit":["last",2],"order":"/at"}');
     for (const it of [page, other]) await says_of(it, `clients.filter(it => it.endsWith(${best})).length === 1`);
     stop();
-    await says_of(page, `!clients.some(it => it.includes(${best}))`);
-    const count = (await page.run(WHO)).length, bare = new WebSocket(node.url);
+    const count = 5; // two of each page, and Node
+    await says_of(page, `clients.length === ${count} && !clients.some(it => it.includes(${best}))`);
+    const bare = new WebSocket(node.url);
     await says_of(page, `clients.length === ${count + 1} && clients.some(it => /^\\d+ 127\\.0\\.0\\.1:\\d+ \\| listens to nothing$/.test(it))`);
     assert.equal(await page.run("document.getElementById('whose').textContent"), `Who is connected (${count + 1})`);
     bare.close();
