@@ -1,15 +1,16 @@
 // One that has come: a stream that asks, shakes hands or is a connection.
-ghost use Rattle.std.specs.Prelude.{◌≡◌, IfOk, OnOk, Some, None, false, if◌then◌else◌, is_some, ◌∷◌, []};
+ghost use Rattle.std.specs.Prelude.{◌≡◌, IfOk, OnOk, Some, None, true, false, if◌then◌else◌, is_some, ◌∷◌, []};
 ghost use Rattle.std.specs.Prelude.{IfSome};
 ghost use Rattle.std.specs.Option.{option_copied_mut, option_map};
 ghost use Rattle.std.specs.List.Sorted.{IsPermutation};
 ghost use Rattle.rt_hub.specs.Hubs.{IsMade};
 ghost use Rattle.rt_peer.specs.Runs.{Connect};
 ghost use Rattle.rt_emulate.specs.inside.Crowds.{Counts};
-ghost use Rattle.rt_emulate.specs.inside.Guests.{HandsAs, HearsAs, asking_of, number_of, rung, silence_after};
+ghost use Rattle.rt_emulate.specs.inside.Guests.{HandsAs, HearsAs, asking_of, number_of, numbered, rung, silence_after};
 ghost use Rattle.rt_emulate.specs.inside.Guests.{talk_of, blocked_by, is_more, talks_as, unblocked};
 ghost use Rattle.rt_emulate.specs.inside.Rosters.{Looks, Tells, is_owed, is_told_now};
 ghost use Rattle.rt_emulate.specs.inside.Silences.{due_of};
+ghost use Rattle.rt_emulate.specs.declared.guest.Stage.TheVariants.{Gone};
 ghost use Rattle.rt_emulate.specs.inside.Alarms.{HasRung, WaitsBeyond, alarm, next_time, sooner};
 
 use crate::calls::{OnWay, Replay};
@@ -79,7 +80,9 @@ impl Drop for Stage {
 
 impl Stage {
     // One that asks, if that is where it is.
-    fn into_asking(self) -> Option<Asking> {
+    fn into_asking(self) -> Option<Asking>
+        ensures { result ≡ asking_of self }
+    {
         match self {
             Stage::Asking(asking) => Some(asking),
             Stage::Shaking(_) | Stage::Open(_) | Stage::Gone => None,
@@ -298,7 +301,18 @@ impl Guest {
         from: SocketAddr,
         serial: u64,
         now: u64,
-    ) -> Guest {
+    ) -> Guest
+        ensures asks { is_some (asking_of result.stage) ≡ true }
+        ensures rest { result ≡ record {
+          stage = result.stage;
+          from = from;
+          visit = record { origin = None; asks = false };
+          serial = serial;
+          silence = record { heard_at = now; pinged_at = None };
+          is_ready = false;
+          is_noted = false;
+        } }
+    {
         Guest {
             stage: Stage::Asking(Asking::new(alloc, stream, now)),
             from,
@@ -386,7 +400,10 @@ impl Guest {
 
     /// One that asks shakes hands from now on: the head of its handshake has so many bytes. What that says of
     /// it is kept.
-    pub(crate) fn upgrade(&mut self, alloc: Global, size: usize, judge: Judge) -> Result<(), Halt> {
+    pub(crate) fn upgrade(&mut self, alloc: Global, size: usize, judge: Judge) -> Result<(), Halt>
+        ensures looked { OnOk result (Looks (asking_of self.old.stage) self.old
+            (record (self.new) { stage = self.old.stage })) }
+    {
         self.look()?;
         let stage = std::mem::replace(&mut self.stage, Stage::Gone);
         let Some(asking) = stage.into_asking() else {
@@ -398,7 +415,9 @@ impl Guest {
     }
 
     // Its handshake, if it shakes hands: it is to be given back.
-    fn take_shaking(&mut self) -> Option<Shaking> {
+    fn take_shaking(&mut self) -> Option<Shaking>
+        ensures { self.new ≡ record (self.old) { stage = Gone } }
+    {
         std::mem::replace(&mut self.stage, Stage::Gone).into_shaking()
     }
 
@@ -409,7 +428,11 @@ impl Guest {
         alloc: Global,
         is_telling: bool,
         log: &mut Diary,
-    ) -> Result<Turned, Halt> {
+    ) -> Result<Turned, Halt>
+        ensures kept { self.new ≡ record (self.old) { stage = self.new.stage } }
+        ensures begins { IfSome (talk_of self.new.stage) (λ t. (t.connection ≡ 0) × (t.is_blocked ≡ false)
+            × (t.told ≡ (if self.old.visit.asks then Some 0 else None))) }
+    {
         let Some(mut shaking) = self.take_shaking() else {
             return Ok(Turned::Idle);
         };
@@ -439,8 +462,9 @@ impl Guest {
         hub: &mut Hub,
         log: &mut Diary,
     ) -> Result<u64, Halt>
-        ensures { IfOk result (λ n. IsMade hub.old Connect hub.new
-            × (number_of self.new.stage ≡ option_map (λ t. n) (talk_of self.old.stage))) }
+        ensures made { IfOk result (λ n. IsMade hub.old Connect hub.new
+            × (talk_of self.new.stage ≡ option_map (numbered n) (talk_of self.old.stage))) }
+        ensures kept { self.new ≡ record (self.old) { stage = self.new.stage } }
     {
         let connection = hub.connect()?;
         if let Stage::Open(talk) = &mut self.stage {

@@ -1,11 +1,14 @@
 // Those that have come, over one hub.
-ghost use Rattle.std.specs.Prelude.{◌≡◌, [], None, Ok, IfOk, OnOk, true};
-ghost use Rattle.std.specs.Option.{option_map_or};
+ghost use Rattle.std.specs.Prelude.{◌≡◌, ◌++◌, ◌∷◌, [], None, Ok, IfOk, OnOk, true};
+ghost use Rattle.std.specs.Option.{option_and_then, option_map_or};
+ghost use Rattle.slab.specs.Slab.{get};
+ghost use Rattle.rt_journal.specs.Due.{next_at};
 ghost use Rattle.rt_emulate.specs.Clients.{clients_text};
 ghost use Rattle.rt_emulate.specs.declared.ending.GuestEnd.TheVariants.{Stopped};
 ghost use Rattle.rt_emulate.specs.inside.Guests.{HandsAt, NotesEach, asking_at, talk_at};
+ghost use Rattle.rt_emulate.specs.inside.Keeping.{fault_by};
 ghost use Rattle.rt_emulate.specs.inside.Requests.{stopped_of};
-ghost use Rattle.rt_emulate.specs.inside.Rosters.{RenewsIf, clients_of, is_due};
+ghost use Rattle.rt_emulate.specs.inside.Rosters.{BeginsAt, Ends, RenewsIf, clients_of, is_due};
 
 use crate::calls::OnWay;
 use crate::diary::{self, Diary};
@@ -135,6 +138,11 @@ impl Guests {
     fn note_told(&mut self) -> Result<(), Halt>
         ensures noted { OnOk result (NotesEach self.old.notes.told.items self.old.present self.new.present) }
         ensures told { OnOk result (self.new.notes.told.items ≡ []) }
+        ensures kept { self.new ≡ record (self.old) {
+          sent = self.new.sent;
+          present = self.new.present;
+          notes = record (self.old.notes) { told = self.new.notes.told };
+        } }
     {
         self.sent = self.sent.saturating_add(self.notes.told.len());
         self.present.note_each(self.notes.told.as_slice())?;
@@ -193,7 +201,10 @@ impl Guests {
     }
 
     // The guest at that place goes on to shake hands.
-    fn shake(&mut self, place: usize, log: &mut Diary) -> Result<Turned, Halt> {
+    fn shake(&mut self, place: usize, log: &mut Diary) -> Result<Turned, Halt>
+        ensures begins { IfOk result (λ turned. BeginsAt (get self.old.present.all place) turned
+            self.old.roster self.new.roster) }
+    {
         let Some(guest) = self.present.all.get_mut(place) else {
             return Ok(Turned::Idle);
         };
@@ -205,7 +216,8 @@ impl Guests {
                 self.roster.begin(connection, asks)?;
                 Ok(Turned::More)
             }
-            turned => Ok(turned),
+            Turned::Idle => Ok(Turned::Idle),
+            Turned::Ends(why) => Ok(Turned::Ends(why)),
         }
     }
 
@@ -340,7 +352,14 @@ impl Guests {
 
     // Sends the guest at that place what it is answered for requests that can't be taken. Answers what
     // became of its turn, if it is over.
-    fn answer(&mut self, place: usize) -> Result<Option<Turned>, Halt> {
+    fn answer(&mut self, place: usize) -> Result<Option<Turned>, Halt>
+        ensures answered { self.new.notes.answers.items ≡ [] }
+        ensures kept { self.new ≡ record (self.old) {
+          on_way = self.new.on_way;
+          present = self.new.present;
+          notes = record (self.old.notes) { answers = self.new.notes.answers };
+        } }
+    {
         let answered = match self.present.talk(place) {
             Some(talk) => talk.answer(self.notes.answers.as_slice(), &mut self.on_way),
             None => Ok(None),
@@ -397,8 +416,10 @@ impl Guests {
     // Nobody is told a text that is to be made anew, since one that asks may not stand in it. The guest goes
     // where memory lacks for it, and nobody else does. Answers why, if it does.
     fn tell(&mut self, place: usize) -> Result<Option<GuestEnd>, Halt>
-        ensures hub { self.new.hub ≡ self.old.hub }
-        ensures kept { self.new.roster ≡ self.old.roster }
+        ensures kept { self.new ≡ record (self.old) {
+          present = self.new.present;
+          on_way = self.new.on_way;
+        } }
         ensures untold { talk_at self.old.present place ≡ None → result ≡ Ok None }
         ensures stale { is_due self.old.roster ≡ true → (self.new ≡ self.old) × (result ≡ Ok None) }
     {
@@ -423,9 +444,13 @@ impl Guests {
     /// and those that ask are told it next. Where memory lacks for it that is done behind a later round.
     #[tactic(auto, using(crate::proofs::Renewing::renews, crate::proofs::Renewing::stays))]
     pub(crate) fn renew_roster(&mut self) -> Result<(), Halt>
-        ensures { OnOk result (RenewsIf (is_due self.old.roster)
+        ensures renewed { OnOk result (RenewsIf (is_due self.old.roster)
             (clients_text (clients_of self.old.hub self.old.present))
             self.old.roster self.old.present self.new.roster self.new.present) }
+        ensures kept { self.new ≡ record (self.old) {
+          present = self.new.present;
+          roster = self.new.roster;
+        } }
     {
         if !self.roster.is_due() {
             return Ok(());
@@ -441,8 +466,14 @@ impl Guests {
 
     // Hands over to the guest at that place what waits for it. Answers why it goes, if it does.
     fn hand_over_to(&mut self, place: usize, log: &mut Diary) -> Result<Option<GuestEnd>, Halt>
-        ensures { IfOk result (λ why. HandsAt (talk_at self.old.present place) why
+        ensures handed { IfOk result (λ why. HandsAt (talk_at self.old.present place) why
             self.old.hub self.new.hub) }
+        ensures kept { self.new ≡ record (self.old) {
+          hub = self.new.hub;
+          on_way = self.new.on_way;
+          present = self.new.present;
+          keeper = self.new.keeper;
+        } }
     {
         let Some(talk) = self.present.talk(place) else {
             return Ok(None);
@@ -495,7 +526,15 @@ impl Guests {
     }
 
     // The connection ends, in turns.
-    fn leave(&mut self, connection: u64, why: GuestEnd, log: &mut Diary) -> Result<(), Halt> {
+    fn leave(&mut self, connection: u64, why: GuestEnd, log: &mut Diary) -> Result<(), Halt>
+        ensures asks { Ends connection self.old.roster self.new.roster }
+        ensures leaves { OnOk result (self.new.leaving ≡ self.old.leaving ++ connection ∷ []) }
+        ensures kept { self.new ≡ record (self.old) {
+          on_way = self.new.on_way;
+          roster = self.new.roster;
+          leaving = self.new.leaving;
+        } }
+    {
         diary::ended(self.alloc, log, connection, why);
         self.roster.end(connection);
         self.on_way.set(connection, 0)?;
@@ -567,7 +606,9 @@ impl Guests {
     }
 
     /// When something of the tree's file is due.
-    pub(crate) fn kept_at(&self, now: u64) -> Option<u64> {
+    pub(crate) fn kept_at(&self, now: u64) -> Option<u64>
+        ensures { result ≡ option_and_then (λ j. next_at j.standing now) self.entry.now.keeper.journal }
+    {
         self.keeper.next_at(now)
     }
 
@@ -584,7 +625,9 @@ impl Guests {
     }
 
     /// Why turns ended early, as it is said.
-    pub(crate) fn fault_of(&mut self, halt: Halt) -> EmulateFault {
+    pub(crate) fn fault_of(&mut self, halt: Halt) -> EmulateFault
+        ensures { result ≡ fault_by halt self.old.keeper.fault }
+    {
         self.keeper.fault_of(halt)
     }
 

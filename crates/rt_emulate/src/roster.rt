@@ -1,6 +1,6 @@
 // Who is connected and what each listens to, as those are told that ask for it.
 ghost use Rattle.std.specs.Prelude.{◌≡◌, ◌&&◌, ◌||◌, ◌++◌, None, map, not, true, is_some, option_map};
-ghost use Rattle.std.specs.Prelude.{string_bytes, IfOk, OnOk};
+ghost use Rattle.std.specs.Prelude.{string_bytes, IfOk, OnOk, [], false};
 ghost use Rattle.std.specs.Net.Text.{socket_text};
 ghost use Rattle.serde_json.specs.Data.{string};
 ghost use Rattle.serde_json.specs.Written.{compact_text};
@@ -269,7 +269,15 @@ impl Drop for Roster {
 
 impl Roster {
     /// Nobody asks yet. Takes no memory.
-    pub(crate) fn new(alloc: Global) -> Roster {
+    pub(crate) fn new(alloc: Global) -> Roster
+        ensures nobody { (result.askers.items ≡ []) × (string_bytes result.text ≡ []) }
+        ensures rest { result ≡ record {
+          text = result.text;
+          version = 0;
+          is_stale = false;
+          askers = result.askers;
+        } }
+    {
         Roster {
             text: String::new(alloc),
             version: 0,

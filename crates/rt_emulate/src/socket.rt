@@ -85,7 +85,23 @@ impl Socket {
         alloc: Global,
         socket: WebSocket<Counted<Replay>, NoMask>,
         is_telling: bool,
-    ) -> Socket {
+    ) -> Socket
+        ensures none { result.refusals.items ≡ [] }
+        ensures rest { result ≡ record {
+          alloc = alloc;
+          socket = socket;
+          text = result.text;
+          was_binary = false;
+          said = result.said;
+          flushed = result.flushed;
+          unsent = 0;
+          is_spent = false;
+          closed = None;
+          why = None;
+          is_telling = is_telling;
+          refusals = result.refusals;
+        } }
+    {
         Socket {
             alloc,
             socket,
@@ -103,7 +119,9 @@ impl Socket {
     }
 
     /// A turn begins.
-    pub(crate) fn begin_turn(&mut self) {
+    pub(crate) fn begin_turn(&mut self)
+        ensures { self.new ≡ record (self.old) { socket = self.new.socket; is_spent = false } }
+    {
         self.is_spent = false;
         self.socket.get_mut().await_message();
     }
@@ -137,14 +155,18 @@ impl Socket {
     }
 
     /// Sends a ping.
-    pub(crate) fn ping(&mut self) {
+    pub(crate) fn ping(&mut self)
+        ensures { self.new ≡ record (self.old) { socket = self.new.socket } }
+    {
         // A stream that takes none is found out by its silence.
         let _pinged = done(self.socket.send(Message::Ping(Bytes::new())));
     }
 
     /// Sends what waits, as far as it goes, and a close with that code and that reason, which has 123 bytes
     /// at most. A socket that has failed takes no close, so it is written behind its back.
-    pub(crate) fn close(&mut self, code: u16, reason: &str) {
+    pub(crate) fn close(&mut self, code: u16, reason: &str)
+        ensures { self.new ≡ record (self.old) { socket = self.new.socket } }
+    {
         if done(self.socket.flush()).is_ok() {
             let len = reason.len().min(123);
             let head = [0x88, 2 + len as u8, (code / 256) as u8, (code % 256) as u8];

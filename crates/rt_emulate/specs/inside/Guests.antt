@@ -116,6 +116,9 @@ asking_of Gone = None
 abbrev pub number_of : Stage → Option ℕ
 number_of stage = option_map (λ t. t.connection) (talk_of stage)
 
+abbrev pub numbered : ℕ → Talk → Talk
+numbered n t = record t { connection = n }
+
 -- the connection of the guest at that place, if it is one
 abbrev pub talk_at : Present → ℕ → Option Talk
 talk_at p place = option_and_then (λ g. talk_of g.stage) (get p.all place)

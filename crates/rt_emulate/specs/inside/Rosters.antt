@@ -16,6 +16,8 @@ use Rattle.rt_emulate.specs.declared.guest.Guest.{Guest}
 use Rattle.rt_emulate.specs.declared.guest.Talk.{Talk}
 use Rattle.rt_emulate.specs.declared.guest.TextSent.{TextSent}
 use Rattle.rt_emulate.specs.declared.guest.TextSent.TheVariants as Says
+use Rattle.rt_emulate.specs.declared.guest.Turned.{Turned}
+use Rattle.rt_emulate.specs.declared.guest.Turned.TheVariants as turns
 use Rattle.rt_emulate.specs.declared.present.Present.{Present}
 use Rattle.rt_emulate.specs.declared.roster.Roster.{Roster}
 use Rattle.rt_emulate.specs.declared.visit.Visit.{Visit}
@@ -108,6 +110,13 @@ abbrev pub Begins : ℕ → Bool → Roster → Roster → Type 0
 Begins n asks old new =
     (new.askers.items ≡ (if asks then old.askers.items ++ n ∷ [] else old.askers.items))
     × (new ≡ record old { is_stale = true; askers = new.askers })
+
+-- a guest that has shaken hands begins, and asks where its handshake did
+abbrev pub BeginsAt : Option Guest → Turned → Roster → Roster → Type 0
+BeginsAt None turned old new = new ≡ old
+BeginsAt (Some g) turns.Idle old new = new ≡ old
+BeginsAt (Some g) turns.More old new = (n : ℕ) × Begins n g.visit.asks old new
+BeginsAt (Some g) (turns.Ends why) old new = new ≡ old
 
 -- one that ends doesn't any more; where nobody asks, no text counts
 abbrev pub Ends : ℕ → Roster → Roster → Type 0
