@@ -1,7 +1,8 @@
 // The emulator: who connects is let in, and each has its turns.
-ghost use Rattle.std.specs.Prelude.{◌≡◌};
+ghost use Rattle.std.specs.Prelude.{◌≡◌, nat_le, false};
+ghost use Rattle.std.specs.Option.{option_map_or};
 ghost use Rattle.rt_emulate.specs.inside.Alarms.{patience};
-ghost use Rattle.rt_emulate.specs.inside.Guests.{IsPatience};
+ghost use Rattle.rt_emulate.specs.inside.Guests.{patience_of};
 
 use crate::diary::{self, Diary};
 use crate::edge::{Edge, Keys, LISTENER, Stopper, WAKER};
@@ -194,7 +195,7 @@ impl Emulator {
     // How many milliseconds may be waited for events; none: for ever. Where lines wait they are handed on
     // soon.
     fn patience(&self, has_lines: bool) -> Option<u64>
-        ensures { IsPatience self.entry.now has_lines result }
+        ensures { result ≡ patience_of self.entry.now has_lines }
     {
         let present = &self.guests.present;
         let is_idle = present.is_idle() && self.guests.leaving.is_empty();
@@ -313,6 +314,17 @@ impl Emulator {
         Ok(())
     }
 
+    // Whether as many connections have gone as are served.
+    fn is_done(&self) -> bool
+        ensures { result ≡ option_map_or (λ count. nat_le count self.entry.now.guests.gone)
+            self.entry.now.count false }
+    {
+        match self.count {
+            Some(count) => self.guests.gone >= u64::from(count),
+            None => false,
+        }
+    }
+
     // Takes what happened, and does all that can be done now without waiting. Answers whether it has stopped,
     // as it was told to, or since as many connections have gone as are served: then all go, what they asked
     // for at their end is run, and the tree's file has it all.
@@ -325,11 +337,7 @@ impl Emulator {
         self.turn(system, log)?;
         self.guests.renew_roster()?;
         self.guests.keep(rt, system, self.now, log)?;
-        let is_done = match self.count {
-            Some(count) => self.guests.gone >= u64::from(count),
-            None => false,
-        };
-        if stops || is_done {
+        if stops || self.is_done() {
             self.guests.close(rt, system, log)?;
             return Ok(true);
         }

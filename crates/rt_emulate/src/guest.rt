@@ -4,6 +4,7 @@ ghost use Rattle.std.specs.Prelude.{IfSome};
 ghost use Rattle.std.specs.Option.{option_copied_mut, option_map};
 ghost use Rattle.std.specs.List.Sorted.{IsPermutation};
 ghost use Rattle.rt_hub.specs.Hubs.{IsMade};
+ghost use Rattle.rt_peer.specs.Peers.{least_free};
 ghost use Rattle.rt_peer.specs.Runs.{Connect};
 ghost use Rattle.rt_emulate.specs.inside.Crowds.{Counts};
 ghost use Rattle.rt_emulate.specs.inside.Guests.{HandsAs, HearsAs, asking_of, number_of, numbered, rung, silence_after};
@@ -462,6 +463,7 @@ impl Guest {
         hub: &mut Hub,
         log: &mut Diary,
     ) -> Result<u64, Halt>
+        ensures number { IfOk result (λ n. IfSome hub.old (λ h. n ≡ least_free h.peer.connections)) }
         ensures made { IfOk result (λ n. IsMade hub.old Connect hub.new
             × (talk_of self.new.stage ≡ option_map (numbered n) (talk_of self.old.stage))) }
         ensures kept { self.new ≡ record (self.old) { stage = self.new.stage } }

@@ -1,11 +1,10 @@
 // Those that have come, over one hub.
-ghost use Rattle.std.specs.Prelude.{◌≡◌, ◌++◌, ◌∷◌, [], None, Ok, IfOk, OnOk, true};
-ghost use Rattle.std.specs.Option.{option_and_then, option_map_or};
+ghost use Rattle.std.specs.Prelude.{◌≡◌, ◌++◌, ◌∷◌, ◌+◌, ◌-◌, ◌^◌, min, length, [], None, Ok, IfOk, OnOk, true};
+ghost use Rattle.std.specs.Option.{option_map_or};
 ghost use Rattle.slab.specs.Slab.{get};
-ghost use Rattle.rt_journal.specs.Due.{next_at};
 ghost use Rattle.rt_emulate.specs.Clients.{clients_text};
 ghost use Rattle.rt_emulate.specs.declared.ending.GuestEnd.TheVariants.{Stopped};
-ghost use Rattle.rt_emulate.specs.inside.Guests.{HandsAt, NotesEach, asking_at, talk_at};
+ghost use Rattle.rt_emulate.specs.inside.Guests.{HandsAt, NotesEach, asking_at, kept_at, talk_at};
 ghost use Rattle.rt_emulate.specs.inside.Keeping.{fault_by};
 ghost use Rattle.rt_emulate.specs.inside.Requests.{stopped_of};
 ghost use Rattle.rt_emulate.specs.inside.Rosters.{BeginsAt, Ends, RenewsIf, clients_of, is_due};
@@ -138,6 +137,8 @@ impl Guests {
     fn note_told(&mut self) -> Result<(), Halt>
         ensures noted { OnOk result (NotesEach self.old.notes.told.items self.old.present self.new.present) }
         ensures told { OnOk result (self.new.notes.told.items ≡ []) }
+        ensures counted { self.new.sent
+            ≡ min (self.old.sent + length self.old.notes.told.items) (2 ^ 64 - 1) }
         ensures kept { self.new ≡ record (self.old) {
           sent = self.new.sent;
           present = self.new.present;
@@ -203,7 +204,7 @@ impl Guests {
     // The guest at that place goes on to shake hands.
     fn shake(&mut self, place: usize, log: &mut Diary) -> Result<Turned, Halt>
         ensures begins { IfOk result (λ turned. BeginsAt (get self.old.present.all place) turned
-            self.old.roster self.new.roster) }
+            self.old.hub self.new.hub self.old.roster self.new.roster) }
     {
         let Some(guest) = self.present.all.get_mut(place) else {
             return Ok(Turned::Idle);
@@ -607,7 +608,7 @@ impl Guests {
 
     /// When something of the tree's file is due.
     pub(crate) fn kept_at(&self, now: u64) -> Option<u64>
-        ensures { result ≡ option_and_then (λ j. next_at j.standing now) self.entry.now.keeper.journal }
+        ensures { result ≡ kept_at self.entry.now now }
     {
         self.keeper.next_at(now)
     }

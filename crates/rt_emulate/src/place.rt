@@ -26,8 +26,9 @@ pub(crate) fn set_place(
     connection: u64,
     place: usize,
 ) -> Result<(), AllocError>
-    ensures { OnOk result (0 < connection → (n : ℕ) → place_of places.new.items n
+    ensures placed { OnOk result (0 < connection → (n : ℕ) → place_of places.new.items n
         ≡ (if connection == n then Some place else place_of places.old.items n)) }
+    ensures nobody { connection ≡ 0 → places.new ≡ places.old }
 {
     if connection == 0 {
         return Ok(());

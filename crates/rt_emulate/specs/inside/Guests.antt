@@ -12,12 +12,14 @@ use Rattle.rt_hub.specs.declared.turn.Handed.TheVariants as hand
 use Rattle.rt_hub.specs.declared.hub.Notes.{Notes}
 use Rattle.rt_hub.specs.declared.turn.Turn.{Turn}
 use Rattle.rt_hub.specs.declared.turn.Turn.TheVariants as turn
+use Rattle.rt_journal.specs.Due.{next_at}
 use Rattle.rt_emulate.specs.declared.requests.Asking.{Asking as Request}
 use Rattle.rt_emulate.specs.declared.emulator.Emulator.{Emulator}
 use Rattle.rt_emulate.specs.declared.emulator.TheConstants.{LINES_MS}
 use Rattle.rt_emulate.specs.declared.ending.GuestEnd.{GuestEnd}
 use Rattle.rt_emulate.specs.declared.ending.GuestEnd.TheVariants.{Silent, Unshaken}
 use Rattle.rt_emulate.specs.declared.guest.Guest.{Guest}
+use Rattle.rt_emulate.specs.declared.guests.Guests.{Guests}
 use Rattle.rt_emulate.specs.declared.guest.Stage.{Stage}
 use Rattle.rt_emulate.specs.declared.guest.Stage.TheVariants.{Asking, Shaking, Open, Gone}
 use Rattle.rt_emulate.specs.declared.guest.Talk.{Talk}
@@ -91,11 +93,16 @@ later now wait = min (now + wait) (2 ^ 64 - 1)
 abbrev pub lines_at : Bool → ℕ → Option ℕ
 lines_at has_lines now = if has_lines then Some (later now LINES_MS) else None
 
--- how long an emulator waits, where something of the tree's file may be due then
-abbrev pub IsPatience : Emulator → Bool → Option ℕ → Type 0
-IsPatience e has_lines patient =
-    (kept : Option ℕ) × (patient ≡ patience (has_work e.guests.present e.guests.leaving e.has_visitor e.retry_at)
-    (sooner (sooner (sooner (next_time e.guests.present.alarms) e.retry_at) (lines_at has_lines e.now)) kept) e.now)
+-- when something of the tree's file is due
+abbrev pub kept_at : Guests → ℕ → Option ℕ
+kept_at g now = option_and_then (λ j. next_at j.standing now) g.keeper.journal
+
+-- how long an emulator waits
+abbrev pub patience_of : Emulator → Bool → Option ℕ
+patience_of e has_lines =
+    patience (has_work e.guests.present e.guests.leaving e.has_visitor e.retry_at)
+    (sooner (sooner (sooner (next_time e.guests.present.alarms) e.retry_at) (lines_at has_lines e.now))
+    (kept_at e.guests e.now)) e.now
 
 -- ---- connections
 

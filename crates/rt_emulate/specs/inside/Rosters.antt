@@ -1,6 +1,6 @@
 -- Who is connected, who asks for that, and who is told.
 use Rattle.std.specs.Prelude.{◌≡◌, ◌≢◌, ◌==◌, ◌+◌, ◌-◌, ◌⊎◌, ◌++◌, ◌∷◌, [], ◌^◌, ℕ, List, min, Bool, true, false, not, ◌&&◌, ◌||◌}
-use Rattle.std.specs.Prelude.{if◌then◌else◌, Option, Some, None, String, string_bytes, codes}
+use Rattle.std.specs.Prelude.{if◌then◌else◌, Option, Some, None, IfSome, String, string_bytes, codes}
 use Rattle.std.specs.declared.alloc.Global.{Global}
 use Rattle.std.specs.List.{filter}
 use Rattle.std.specs.Net.Text.{socket_text}
@@ -9,7 +9,9 @@ use Rattle.std.specs.Str.{bytes_eq, is_utf8}
 use Rattle.slab.specs.Slab.{get}
 use Rattle.tungstenite.specs.Content.{text as Text}
 use Rattle.rt_http.specs.Heads.{Said}
-use Rattle.rt_hub.specs.Hubs.{Hub, listen_texts}
+use Rattle.rt_peer.specs.Peers.{least_free}
+use Rattle.rt_peer.specs.Runs.{Connect}
+use Rattle.rt_hub.specs.Hubs.{Hub, IsMade, listen_texts}
 use Rattle.rt_emulate.specs.Clients.{Client, bounded, client_text, comma}
 use Rattle.rt_emulate.specs.declared.requests.Asking.{Asking as Request}
 use Rattle.rt_emulate.specs.declared.guest.Guest.{Guest}
@@ -111,12 +113,18 @@ Begins n asks old new =
     (new.askers.items ≡ (if asks then old.askers.items ++ n ∷ [] else old.askers.items))
     × (new ≡ record old { is_stale = true; askers = new.askers })
 
--- a guest that has shaken hands begins, and asks where its handshake did
-abbrev pub BeginsAt : Option Guest → Turned → Roster → Roster → Type 0
-BeginsAt None turned old new = new ≡ old
-BeginsAt (Some g) turns.Idle old new = new ≡ old
-BeginsAt (Some g) turns.More old new = (n : ℕ) × Begins n g.visit.asks old new
-BeginsAt (Some g) (turns.Ends why) old new = new ≡ old
+-- the hub has a connection more, which begins under its number
+abbrev pub BeginsAs : Bool → Option Hub → Option Hub → Roster → Roster → Type 0
+BeginsAs asks hub hub2 old new =
+    (n : ℕ) × IsMade hub Connect hub2 × IfSome hub (λ (h : Hub). n ≡ least_free h.peer.connections)
+    × Begins n asks old new
+
+-- so does a guest that has shaken hands, and asks where its handshake did
+abbrev pub BeginsAt : Option Guest → Turned → Option Hub → Option Hub → Roster → Roster → Type 0
+BeginsAt None turned hub hub2 old new = (hub2 ≡ hub) × (new ≡ old)
+BeginsAt (Some g) turns.Idle hub hub2 old new = (hub2 ≡ hub) × (new ≡ old)
+BeginsAt (Some g) turns.More hub hub2 old new = BeginsAs g.visit.asks hub hub2 old new
+BeginsAt (Some g) (turns.Ends why) hub hub2 old new = (hub2 ≡ hub) × (new ≡ old)
 
 -- one that ends doesn't any more; where nobody asks, no text counts
 abbrev pub Ends : ℕ → Roster → Roster → Type 0
