@@ -12,8 +12,8 @@ import time
 import types
 
 from cutting import must
-from emulating import LISTEN, Emulator, answered, data, drop, ok, put, say, wrong_in
-from frames import PING, SECONDS, TEXT, Client, compact
+from emulating import LISTEN, Emulator, answered, asked, data, drop, head, ok, put, say, wrong_in
+from frames import PING, PONG, SECONDS, TEXT, Client, compact
 from leaving import resets
 
 MOST = 1_048_576  # bytes of a text that says who is connected
@@ -25,13 +25,20 @@ def asker(port, origin=None):
     return Client(port, target=b"/?clients", fields=f"Origin: {origin}\r\n".encode() if origin else b"")
 
 
+def frame_of(stream):
+    """The next frame: its first byte, and what is in it."""
+    first, length = struct.unpack("!BB", stream.read(2))
+    length = struct.unpack("!H", stream.read(2))[0] if length == 126 else length
+    length = struct.unpack("!Q", stream.read(8))[0] if length == 127 else length
+    return first, stream.read(length)
+
+
 def said(client):
-    """The next text, as it was sent."""
-    first, length = struct.unpack("!BB", client.stream.read(2))
-    length = struct.unpack("!H", client.stream.read(2))[0] if length == 126 else length
-    length = struct.unpack("!Q", client.stream.read(8))[0] if length == 127 else length
-    must("what it is", first, TEXT)
-    return client.stream.read(length).decode()
+    """The next text, as it was sent. A ping before it, as one is sent that was silent for long, is answered."""
+    while (it := frame_of(client.stream)) == (PING, b""):
+        client.frame(PONG, b"")
+    must("what it is", it[0], TEXT)
+    return it[1].decode()
 
 
 def one(number, client, *listens, **more):
@@ -42,6 +49,16 @@ def one(number, client, *listens, **more):
 
 def all_of(*clients):
     return compact({"clients": list(clients), "k": "clients"})
+
+
+def listens_long(client, tag):
+    """It listens by that tag to a query of 60,000 bytes: of 18 such the text is too long, and of 12 it is not."""
+    must("a long listen", asked(client, {**LISTEN, "q": {"lower": ["y" * 60_000, "min"], "order": "/x"}, "tag": tag}), data("/a", None, tag))
+
+
+def is_there(stream):
+    """One that reads nothing for long says that it is there: else it is sent a ping, and ended."""
+    stream.sendall(head(PONG, 0))
 
 
 def told(what, client, *clients):
@@ -205,12 +222,9 @@ def long_texts_name_nobody(program, _room):
     with Emulator(program) as it:
         first, other = asker(it.port), Client(it.port)
         me = one(1, first, asks=True)
-        path = "/" + "k" * 500
-        texts = [compact({"k": "listen", "path": path, "tag": tag}) for tag in range(1, 2001)]
-        for text in texts:
-            say(other, text)
-        for _ in texts:
-            other.text()
+        for tag in range(1, 19):
+            listens_long(other, tag)
+            is_there(first.socket)
         nobody = compact({"clients": None, "k": "clients"})
         until = time.monotonic() + SECONDS
         while (last := said(first)) != nobody and time.monotonic() < until:
@@ -230,31 +244,28 @@ def long_texts_name_nobody(program, _room):
 def slow_ones_are_told_the_newest(program, _room):
     """One that reads nothing is told little of many changes, and the newest once it reads; meanwhile the others are served."""
     with Emulator(program) as it:
-        slow = socket.socket()
+        other = Client(it.port)
+        for tag in range(1, 13):
+            listens_long(other, tag)
+        slow = socket.socket()  # from now on a text is so long that the system takes few of them that nobody reads
         slow.setsockopt(socket.SOL_SOCKET, socket.SO_RCVBUF, 4096)
         slow.settimeout(SECONDS)
         slow.connect(("127.0.0.1", it.port))
         must("its handshake", answered(slow, target="/?clients"), b"HTTP/1.1 101")
-        other, path = Client(it.port), "/" + "k" * 700
-        for tag in range(1, 1001):
-            say(other, {"k": "listen", "path": path, "tag": tag})
-        for _ in range(1000):
-            other.text()
         worst = 0
-        for tag in range(1001, 1201):
+        for tag in range(13, 53):
             began = time.monotonic()
             must("a listen", other.ask({**LISTEN, "tag": tag}, 1), [data("/a", None, tag)])
             worst = max(worst, time.monotonic() - began)
-        must("whether each was answered within a second", worst < 1, True)
+            is_there(slow)
+        must("whether none of them waited for the slow one", worst < 10, True)
         read = slow.makefile("rb")
         while read.readline() != b"\r\n":
             pass
         count, last = 0, ""
-        while '"tag":1200}' not in last:
-            length = struct.unpack("!BB", read.read(2))[1]
-            length = struct.unpack("!Q", read.read(8))[0] if length == 127 else struct.unpack("!H", read.read(2))[0] if length == 126 else length
-            count, last = count + 1, read.read(length).decode()
-        must("whether it was told few", count < 100, True)
+        while '"tag":52}' not in last:
+            count, last = count + 1, frame_of(read)[1].decode()
+        must("whether it was told few", count < 20, True)
         read.close()
         slow.close()
         must("how it ends", it.end(), (0, b""))
