@@ -18,8 +18,8 @@ from concurrent.futures import ThreadPoolExecutor
 HERE = os.path.dirname(os.path.realpath(__file__))
 sys.path[:0] = [f"{HERE}/sessions", HERE]
 from bodies import read
-from cutting import Wrong, ended, served
-from emulating import say
+from cutting import Wrong, ended, must, served
+from emulating import Emulator, ok, say
 from frames import Client
 from parts import Clock, part, some_of
 from rows import CONSOLE, builds_of
@@ -224,11 +224,22 @@ def heard(size):
     return [*listens, {"k": "merge", "id": 1, "entries": {f"/{key}": 1 for key in keys(size)}}], 2 * size + 1
 
 
+# ---- sessions with `emulate`, each of a size: what one client says, and how many texts come for it to each of others, which listen
+
+
+CLIENTS, LISTENS = 4, 4
+
+
+def told(size):
+    """An update of so many entries, which `emulate` sends to four clients, each of four listens."""
+    return [{"k": "merge", "id": 1, "entries": {f"/{number % LISTENS + 1}/{key}": 1 for number, key in enumerate(keys(size))}}], LISTENS
+
+
 # The scripts and sessions whose instructions grow as their size does, and those that grow by its square, as docs/COSTS.md says.
 KINDS = {
     it.__name__: (it, power, sizes)
     for power, sizes, kinds in [
-        (1, (200, 1600), (entries, scattered, removals, parts, settled, overwritten, asked, window, above, runs, actions)),
+        (1, (200, 1600), (entries, scattered, removals, parts, settled, overwritten, asked, window, above, runs, actions, told)),
         (1, (100, 800), (stops, heard, around, closed)),
         (2, (250, 2000), (ends, equals)),
         (2, (100, 800), (revoked, compared)),
@@ -237,7 +248,6 @@ KINDS = {
     ]
     for it in kinds
 }
-SESSIONS = (actions, runs, heard)
 
 
 # ---- counting
@@ -277,12 +287,31 @@ def run_session(command, messages, texts):
         raise Wrong(f"serve ended with {ran.returncode}")
 
 
+def run_emulator(command, messages, texts):
+    """Runs a session of `emulate`: one client says these, and so many texts come for it to each of the others."""
+    with Emulator(command) as it:
+        others = [Client(it.port) for _ in range(CLIENTS)]
+        for other in others:
+            for tag in range(1, LISTENS + 1):
+                say(other, {"k": "listen", "path": f"/{tag}", "tag": tag})
+            must("what is at the listens", [other.text()[1]["value"] for _ in range(LISTENS)], [None] * LISTENS)
+        writer = Client(it.port)
+        for message in messages:
+            say(writer, message)
+        must("what settles it", writer.text(), ok(1))
+        must("what the others are told", [len([other.text() for _ in range(texts)]) for other in others], [texts] * CLIENTS)
+        must("how it ends", it.end(), (0, b""))
+
+
+SESSIONS = {actions: run_session, runs: run_session, heard: run_session, told: run_emulator}
+
+
 def counted(program, room, name, size):
     """How many instructions a script or a session of that size makes."""
     command, log = under_valgrind(program, room, f"{name}-{size}")
     makes, _, _ = KINDS[name]
     if makes in SESSIONS:
-        run_session(command, *makes(size))
+        SESSIONS[makes](command, *makes(size))
     else:
         run_script(command, makes(size))
     return instructions_in(read(log))
