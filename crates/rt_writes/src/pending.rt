@@ -100,7 +100,8 @@ impl Pending {
     }
 
     /// Adds a write, which lies over all earlier ones. [`is_shallow`](crate::is_shallow) tests what
-    /// is asked of each entry. Compares the entries each with each.
+    /// is asked of each entry. Many entries are put in the order of their paths, and each is compared
+    /// with its neighbours alone.
     ///
     /// # Errors
     ///
