@@ -95,7 +95,7 @@ pub use rt_tree::LeafRef;
 ///     tree.put(alloc, path, Tree::null())
 /// }
 ///
-/// fn mark(alloc: Global, tree: &mut Tree, key: &Key) -> Result<(), AllocError> {
+/// fn mark(alloc: Global, tree: &mut Tree, key: &Key) -> Result<Option<Tree>, AllocError> {
 ///     tree.put_child(alloc, key, Tree::leaf(Leaf::truth(true)))
 /// }
 ///

@@ -1,15 +1,17 @@
 -- Entries by their keys: one is put between others, in the place of another, or taken out.
-use Rattle.std.proofs.Common.{◌≡◌, false, cond, List, [], ◌∷◌, ◌++◌, refl, sym, ap, ◌∙◌, Some, None, ◌⊎◌, inl, inr}
+use Rattle.std.proofs.Common.{◌≡◌, ℕ, suc, Bool, true, false, cond, not, List, [], ◌∷◌, ◌++◌, append-nil, length, refl, sym, ap, ◌∙◌, Option, Some, None, ◌⊎◌, inl, inr}
 use Rattle.std.specs.declared.cmp.Ordering.{Ordering}
 use Rattle.std.specs.declared.cmp.Ordering.TheVariants.{Less, Equal, Greater}
-use Rattle.std.specs.Ordering.{is_eq, match_ordering}
+use Rattle.std.specs.Ordering.{is_eq, is_le, match_ordering}
+use Rattle.std.specs.Option.{option_map}
 use Rattle.std.specs.Cmp.{IsTotalOrder}
-use Rattle.std.specs.List.{AllByRecursion}
+use Rattle.std.specs.List.{AllByRecursion, slice_get}
 use Rattle.std.specs.List.Sorted.{IsStrictlySortedBy}
 use Rattle.std.specs.BTreeMap.{insert_entry, is_at}
-use Rattle.std.specs.Map.{keys_of, lookup, remove_entry}
+use Rattle.std.specs.Map.{keys_of, values_of, lookup, remove_entry}
 use Rattle.std.proofs.lemmas.Map.Keys.{sorted_head, sorted_tail}
-use Rattle.rt_chain.proofs.Places.{all_risen}
+use Rattle.rt_chain.specs.Chains.{below, head_or, last_or, slots_of}
+use Rattle.rt_chain.specs.inside.Halves.{places_in}
 
 -- ---- all of two lists
 pub all-left : {A : Type 0} (P : A → Type 0) (es ds : List A) → AllByRecursion P (es ++ ds) → AllByRecursion P es
@@ -39,6 +41,75 @@ split (x ∷ a) b (y ∷ c) d e =
       | inr p ↦ inr (p.0, ((λ i. sym head i ∷ p.1.0 i), p.1.1))
     ]
 
+-- a list in two parts, of which one has this element
+pub held : {A : Type 0} (a b c d : List A) (x : A) → a ++ b ≡ c ++ x ∷ d → ((m : List A) × ((a ≡ c ++ x ∷ m) × (d ≡ m ++ b))) ⊎ ((m : List A) × ((c ≡ a ++ m) × (b ≡ m ++ x ∷ d)))
+held {A} a b c d x e = elim (split a b c (x ∷ d) e) [
+  | inl p ↦ at p.0 p.1.0 p.1.1
+  | inr p ↦ inr p
+]
+  where
+    at : (m : List A) → a ≡ c ++ m → x ∷ d ≡ m ++ b → ((m : List A) × ((a ≡ c ++ x ∷ m) × (d ≡ m ++ b))) ⊎ ((m : List A) × ((c ≡ a ++ m) × (b ≡ m ++ x ∷ d)))
+    at [] u v = inr ([], (sym (append-nil a ∙ u ∙ append-nil c), sym v))
+    at (y ∷ m) u v =
+        let one : x ≡ y = cc v in
+        let rest : d ≡ m ++ b = cc v in
+        inl (m, (u ∙ ap (λ z. c ++ z ∷ m) (sym one), rest))
+
+-- ---- the first of some places, and the last
+pub head-first : {K : Type 0} (es : List (K × ℕ)) (e : K × ℕ) → slice_get es 0 ≡ Some e → Some e.1 ≡ head_or (values_of es) None
+head-first {K} [] e h = cc h
+head-first {K} (d ∷ es) e h = ap (λ (o : Option (K × ℕ)). elim o [ None ↦ None | Some x ↦ Some x.1 ]) (sym h)
+
+pub last-push : {K : Type 0} (y : Option ℕ) (es : List (K × ℕ)) (e : K × ℕ) → last_or y (values_of (es ++ e ∷ [])) ≡ Some e.1
+last-push y [] e = refl
+last-push y (d ∷ es) e = last-push (Some d.1) es e
+
+-- ---- entries by their places
+module _ {K X : Type 0} where
+  pub slots-append : (es ds : List (K × (ℕ × X))) → slots_of (es ++ ds) ≡ slots_of es ++ slots_of ds
+  slots-append [] ds = refl
+  slots-append (e ∷ es) ds = ap (λ ns. e.1.0 ∷ ns) (slots-append es ds)
+
+  pub places-append : (es ds : List (K × (ℕ × X))) → places_in (es ++ ds) ≡ places_in es ++ places_in ds
+  places-append [] ds = refl
+  places-append (e ∷ es) ds = ap (λ xs. (e.0, e.1.0) ∷ xs) (places-append es ds)
+
+  pub places-keys : (es : List (K × (ℕ × X))) → keys_of (places_in es) ≡ keys_of es
+  places-keys [] = refl
+  places-keys (e ∷ es) = ap (λ xs. e.0 ∷ xs) (places-keys es)
+
+  pub places-slots : (es : List (K × (ℕ × X))) → values_of (places_in es) ≡ slots_of es
+  places-slots [] = refl
+  places-slots (e ∷ es) = ap (λ xs. e.1.0 ∷ xs) (places-slots es)
+
+  pub places-length : (es : List (K × (ℕ × X))) → length (places_in es) ≡ length es
+  places-length [] = refl
+  places-length (e ∷ es) = ap suc (places-length es)
+
+  pub places-lookup : (p : K → Bool) (es : List (K × (ℕ × X))) → lookup p (places_in es) ≡ option_map (λ (q : ℕ × X). q.0) (lookup p es)
+  places-lookup p [] = refl
+  places-lookup p (e ∷ es) =
+      elim (p e.0) as (λ t. cond t (Some e.1.0) (lookup p (places_in es)) ≡ option_map (λ (q : ℕ × X). q.0) (cond t (Some e.1) (lookup p es))) [
+        | true ↦ refl
+        | false ↦ places-lookup p es
+      ]
+
+  pub places-remove : (p : K → Bool) (es : List (K × (ℕ × X))) → remove_entry p (places_in es) ≡ places_in (remove_entry p es)
+  places-remove p [] = refl
+  places-remove p (e ∷ es) =
+      elim (p e.0) as (λ t. cond t (places_in es) ((e.0, e.1.0) ∷ remove_entry p (places_in es)) ≡ places_in (cond t es (e ∷ remove_entry p es))) [
+        | true ↦ refl
+        | false ↦ ap (λ xs. (e.0, e.1.0) ∷ xs) (places-remove p es)
+      ]
+
+  pub places-below : (compare : K → Ordering) (es : List (K × (ℕ × X))) → below compare (places_in es) ≡ places_in (below compare es)
+  places-below compare [] = refl
+  places-below compare (e ∷ es) =
+      elim (is_le (compare e.0)) as (λ t. cond (not t) ((e.0, e.1.0) ∷ below compare (places_in es)) (below compare (places_in es)) ≡ places_in (cond (not t) (e ∷ below compare es) (below compare es))) [
+        | true ↦ places-below compare es
+        | false ↦ ap (λ xs. (e.0, e.1.0) ∷ xs) (places-below compare es)
+      ]
+
 module _ {K : Type 0} (cmp : K → K → Ordering) where
   -- ---- a key among others
   abbrev pub Above : K → List K → Type 0
@@ -58,11 +129,42 @@ module _ {K : Type 0} (cmp : K → K → Ordering) where
   under-apart k [] h = tt
   under-apart k (j ∷ ks) h = (ap is_eq h.0, under-apart k ks h.1)
 
+  all_risen : IsTotalOrder cmp → (k x : K) (ks : List K) → cmp k x ≡ Less → AllByRecursion (λ y. cmp x y ≡ Less) ks → Under k ks
+  all_risen o k x [] e h = tt
+  all_risen o k x (y ∷ ks) e h = (o.trans k x y e h.0, all_risen o k x ks e h.1)
+
   equal_under : IsTotalOrder cmp → (k j : K) (ks : List K) → cmp k j ≡ Equal → AllByRecursion (λ y. cmp j y ≡ Less) ks → Under k ks
   equal_under o k j [] e h = tt
   equal_under o k j (y ∷ ks) e h = (o.congr k j y e ∙ h.0, equal_under o k j ks e h.1)
 
+  pub places-insert : {X : Type 0} (k : K) (n : ℕ) (x : X) (es : List (K × (ℕ × X))) → insert_entry cmp (places_in es) k n ≡ places_in (insert_entry cmp es k (n, x))
+  places-insert k n x [] = refl
+  places-insert k n x (e ∷ es) =
+      elim (cmp k e.0) as (λ r. match_ordering r ((k, n) ∷ (e.0, e.1.0) ∷ places_in es) ((e.0, n) ∷ places_in es) ((e.0, e.1.0) ∷ insert_entry cmp (places_in es) k n)
+      ≡ places_in (match_ordering r ((k, (n, x)) ∷ e ∷ es) ((e.0, (n, x)) ∷ es) (e ∷ insert_entry cmp es k (n, x)))) [
+        | Less ↦ refl
+        | Equal ↦ refl
+        | Greater ↦ ap (λ xs. (e.0, e.1.0) ∷ xs) (places-insert k n x es)
+      ]
+
   module _ {Y : Type 0} where
+    pub keys-left : (P : K → Type 0) (es ds : List (K × Y)) → AllByRecursion P (keys_of (es ++ ds)) → AllByRecursion P (keys_of es)
+    keys-left P [] ds h = tt
+    keys-left P (e ∷ es) ds h = (h.0, keys-left P es ds h.1)
+
+    pub keys-right : (P : K → Type 0) (es ds : List (K × Y)) → AllByRecursion P (keys_of (es ++ ds)) → AllByRecursion P (keys_of ds)
+    keys-right P [] ds h = h
+    keys-right P (e ∷ es) ds h = keys-right P es ds h.1
+
+    -- those below the key
+    pub below_low : (k : K) (es ds : List (K × Y)) → Above k (keys_of es) → below (cmp k) (es ++ ds) ≡ es ++ below (cmp k) ds
+    below_low k [] ds h = refl
+    below_low k (e ∷ es) ds h = ap (λ r. cond (not (is_le r)) (e ∷ below (cmp k) (es ++ ds)) (below (cmp k) (es ++ ds))) h.0 ∙ ap (λ xs. e ∷ xs) (below_low k es ds h.1)
+
+    pub below_high : (k : K) (ds : List (K × Y)) → Under k (keys_of ds) → below (cmp k) ds ≡ []
+    below_high k [] h = refl
+    below_high k (d ∷ ds) h = ap (λ r. cond (not (is_le r)) (d ∷ below (cmp k) ds) (below (cmp k) ds)) h.0 ∙ below_high k ds h.1
+
     pub insert_between : (k : K) (y : Y) (es ds : List (K × Y)) → Above k (keys_of es) → Under k (keys_of ds) → insert_entry cmp (es ++ ds) k y ≡ es ++ (k, y) ∷ ds
     insert_between k y [] [] a u = refl
     insert_between k y [] (d ∷ ds) a u = ap (λ r. match_ordering r ((k, y) ∷ d ∷ ds) ((d.0, y) ∷ ds) (d ∷ insert_entry cmp ds k y)) u.0

@@ -247,19 +247,3 @@ run_without l m k fs gs n run apart kept j =
     let left = apart_without fs gs n apart in
     joined_run m k fs gs (Some n) (Some n) j left.0 (run_kept l m n kept None fs (Some n) (other-left n fs gs left.1) (run-left l None fs (n ∷ gs) None run))
     (run_kept l m n kept (Some n) gs None (other-right n fs gs left.1) (run-right l None fs (n ∷ gs) None run).1)
-
--- ---- the slot behind the last of some
-pub run_last : (l : Links) (y : Option ℕ) (f : ℕ) (fs gs : List ℕ) → IsRun l y (f ∷ fs ++ gs) None → (m : ℕ) → last_or (Some f) fs ≡ Some m → (z : Option ℕ) × (l m ≡ Some (z, head_or gs None))
-run_last l y f [] gs h m e = (y, ap l (sym (inside e)) ∙ h.0)
-  where
-    inside : {a b : ℕ} → Some a ≡ Some b → a ≡ b
-    inside q = cc q
-run_last l y f (g ∷ fs) gs h m e = run_last l (Some f) g fs gs h.1 m e
-
-some_last : (f : ℕ) (fs : List ℕ) → last_or (Some f) fs ≡ None → ⊥
-some_last f [] e = cc e
-some_last f (g ∷ fs) e = some_last g fs e
-
-pub none_last : (fs : List ℕ) → last_or None fs ≡ None → fs ≡ []
-none_last [] e = refl
-none_last (f ∷ fs) e = absurd (some_last f fs e)

@@ -1,5 +1,5 @@
 -- A chain that is cut at one place, as a value: what stands in front of the cut, and what behind it.
-use Rattle.std.specs.Prelude.{◌≡◌, ℕ, Bool, true, false, not, nat_eq, if◌then◌else◌, Option, Some, None, List, [], ◌∷◌, ◌++◌, map, refl}
+use Rattle.std.specs.Prelude.{◌≡◌, ℕ, Bool, true, false, not, nat_eq, Option, Some, None, List, [], ◌∷◌, ◌++◌, map, refl}
 use Rattle.std.specs.List.{AllByRecursion, filter}
 use Rattle.std.specs.Ordering.{is_le}
 use Rattle.std.specs.BTreeMap.{insert_entry}
@@ -77,10 +77,6 @@ module _ {K X : Type 0} where
   -- the slots, in order
   abbrev pub slots_of : List (K × (ℕ × X)) → List ℕ
   slots_of es = map (λ e. e.1.0) es
-
-  -- the entries with another value in one slot
-  abbrev pub with_value : ℕ → X → List (K × (ℕ × X)) → List (K × (ℕ × X))
-  with_value n x es = map (λ e. if nat_eq n e.1.0 then (e.0, (e.1.0, x)) else e) es
 
   -- the last entry
   abbrev pub last_in : List (K × (ℕ × X)) → Option (K × (ℕ × X))

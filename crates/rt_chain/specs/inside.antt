@@ -2,4 +2,3 @@
 pub mod Halves
 pub mod Links
 pub mod Made
-pub mod Places

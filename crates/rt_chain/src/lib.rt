@@ -12,6 +12,5 @@
 #![tactic(auto)]
 
 mod chain;
-mod linked_map;
 
 pub use chain::{Chain, Half, Placed};

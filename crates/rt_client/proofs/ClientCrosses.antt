@@ -28,7 +28,6 @@ use Rattle.rt_parts.specs.contracts.listeners.HeldListener as listening
 use Rattle.rt_parts.specs.contracts.listeners.Listeners as listeners
 use Rattle.rt_world.specs.contracts.step.Request as request
 use Rattle.rt_parts.specs.contracts.requests.Requests as requests
-use Rattle.rt_writes.specs.contracts.spots.Spot as spot
 use Rattle.rt_writes.specs.contracts.pending.Pending as writes
 use Rattle.rt_writes.proofs.spots.Spot.TheLaws.TheKnot.{crosses as spots_cross}
 use Rattle.rt_wire.specs.contracts.client.ClientMessage as message
@@ -39,7 +38,7 @@ use Rattle.rt_client.specs.contracts.lanes.Lanes as lanes
 use Rattle.rt_client.specs.contracts.held.Held as held
 use Rattle.rt_client.specs.contracts.shared.Shared as shared
 use Rattle.rt_client.specs.contracts.client.Client as client
-use Rattle.rt_client.proofs.Crosses.{all_cross, calls_cross, item_send, key_send, trees_cross}
+use Rattle.rt_client.proofs.Crosses.{all_cross, calls_cross, entries_send, item_send, key_send, trees_cross}
 
 pub mirror_send : IsSend mirror.the_row
 mirror_send = search trees_cross depth 40 fits 20000
@@ -128,14 +127,11 @@ request_send : IsSend request.the_row
 request_send = search calls_cross depth 40 fits 20000
 
 -- the tree beside the pending writes holds itself
-spot_send : IsSend spot.the_row
-spot_send = search (spots_cross, trees_cross) depth 40 fits 20000
-
 writes_send : IsSend writes.the_row
-writes_send = search (spot_send, calls_cross) depth 40 fits 20000
+writes_send = search (spots_cross, entries_send, trees_cross) depth 60 fits 60000
 
 requests_send : IsSend requests.the_row
-requests_send = search (request_send, writes_send, calls_cross) depth 40 fits 20000
+requests_send = search (request_send, writes_send, all_cross) depth 40 fits 60000
 
 pub message_send : IsSend message.the_row
 message_send = search calls_cross depth 40 fits 20000

@@ -5,7 +5,7 @@ use Rattle.std.specs.Prelude.{◌==◌, ◌≢◌, if◌then◌else◌, set, unw
 use Rattle.std.specs.List.{slice_get}
 use Rattle.std.proofs.lemmas.Bool.Decides.{nat_tests}
 use Rattle.std.proofs.lemmas.Option.{slice_get_past, slice_get_read}
-use Rattle.rt_view.specs.declared.kinds.Kinds.{Kinds}
+use Rattle.rt_view.specs.declared.change.Kinds.{Kinds}
 use Rattle.rt_world.specs.declared.step.Call.{Call}
 use Rattle.rt_client.specs.declared.shared.Done.{Done}
 use Rattle.rt_client.specs.declared.error.ClientError.{ClientError}

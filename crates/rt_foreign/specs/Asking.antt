@@ -1,6 +1,6 @@
 -- What calls of a seat make of a client.
 use Rattle.std.specs.Prelude.{◌≡◌, ◌≢◌, ◌⊎◌, ℕ, List, Option, Some, None, Result, Ok, Err, unwrap_or}
-use Rattle.rt_view.specs.declared.kinds.Kinds.{Kinds}
+use Rattle.rt_view.specs.declared.change.Kinds.{Kinds}
 use Rattle.rt_world.specs.declared.step.Call.{Call}
 use Rattle.rt_client.specs.declared.shared.Done.{Done}
 use Rattle.rt_client.specs.declared.error.ClientError.{ClientError}

@@ -4,7 +4,7 @@ use Rattle.std.specs.BTreeMap.{insert_entry, is_at}
 use Rattle.std.specs.Map.{lookup, remove_entry}
 use Rattle.std.specs.Ordering.{nat_cmp}
 use Rattle.rt_view.specs.declared.change.Batch.{Batch}
-use Rattle.rt_view.specs.declared.kinds.Kinds.{Kinds}
+use Rattle.rt_view.specs.declared.change.Kinds.{Kinds}
 use Rattle.rt_view.specs.Kinds.{of_kinds}
 use Rattle.rt_mail.specs.declared.item.Item.{Item}
 use Rattle.rt_mail.specs.declared.item.Item.TheVariants as item

@@ -7,7 +7,7 @@ use Rattle.std.specs.declared.cmp.Ord as ord
 use Rattle.std.specs.declared.cmp.PartialEq as eq
 use Rattle.std.specs.declared.cmp.PartialOrd as partial
 use Rattle.rt_map.specs.contracts.chunk.Chunk as chunk
-use Rattle.rt_map.specs.contracts.row.Row as row
+use Rattle.rt_map.specs.contracts.row.MapRow as row
 use Rattle.rt_map.specs.contracts.table.Table as table
 use Rattle.rt_map.specs.contracts.root.Root as root
 use Rattle.rt_map.specs.contracts.map.OrdMap as map

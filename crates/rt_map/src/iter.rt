@@ -6,7 +6,7 @@ ghost use Rattle.std.specs.Map.{keys_of, values_of};
 
 use crate::chunk::Chunk;
 use crate::map::OrdMap;
-use crate::row::Row;
+use crate::row::MapRow;
 use std::alloc::Global;
 use std::marker::Model;
 use std::sync::Arc;
@@ -16,7 +16,7 @@ use std::sync::Arc;
 pub struct Iter<'a, K, V> {
     entries: &'a [(K, V)],
     chunks: &'a [Arc<Chunk<K, V>, Global>],
-    rows: &'a [Arc<Row<K, V>, Global>],
+    rows: &'a [Arc<MapRow<K, V>, Global>],
 }
 
 impl<'a, K, V> Model for Iter<'a, K, V> {
@@ -66,7 +66,7 @@ impl<'a, K, V> Iterator for Iter<'a, K, V> {
 }
 
 /// The entries of all of these rows.
-pub fn iter_of<'a, K, V>(rows: &'a [Arc<Row<K, V>, Global>]) -> Iter<'a, K, V>
+pub fn iter_of<'a, K, V>(rows: &'a [Arc<MapRow<K, V>, Global>]) -> Iter<'a, K, V>
     requires { AllFilled rows.now }
     ensures { result ≡ joined rows.now }
 {

@@ -12,7 +12,7 @@ ghost use Rattle.rt_map.specs.inside.Roots.{root_entries};
 use crate::chunk::{Chunk, MAX_ENTRIES};
 use crate::iter::{Iter, iter_of, iter_of_entries};
 use crate::map::Share;
-use crate::row::{MAX_CHUNKS, Row};
+use crate::row::{MAX_CHUNKS, MapRow};
 use crate::table::Table;
 use std::alloc::{AllocError, Global};
 use std::mem;
@@ -215,7 +215,7 @@ fn push_chunk<K: Drop, V: Drop>(
 
 // One row more.
 fn push_row<K: Drop, V: Drop>(
-    rows: &mut Vec<Arc<Row<K, V>, Global>>,
+    rows: &mut Vec<Arc<MapRow<K, V>, Global>>,
     alloc: Global,
     chunks: Vec<Arc<Chunk<K, V>, Global>>,
 ) -> Result<(), AllocError>
@@ -226,7 +226,7 @@ fn push_row<K: Drop, V: Drop>(
     ensures entries { OnOk result
         (joined rows.new.items ≡ joined rows.old.items ++ joined chunks.items) }
 {
-    let row = Arc::new(alloc, Row::of(chunks))?;
+    let row = Arc::new(alloc, MapRow::of(chunks))?;
     rows.push(row)?;
     Ok(())
 }
@@ -261,7 +261,7 @@ pub fn chunks_of<K: Drop, V: Drop>(
 pub fn rows_of<K: Drop, V: Drop>(
     alloc: Global,
     chunks: Vec<Arc<Chunk<K, V>, Global>>,
-) -> Result<Vec<Arc<Row<K, V>, Global>>, AllocError>
+) -> Result<Vec<Arc<MapRow<K, V>, Global>>, AllocError>
     requires { AllFilled chunks.items }
     ensures filled { IfOk result (λ rows. AllFilled rows.items) }
     ensures entries { IfOk result (λ rows. joined rows.items ≡ joined chunks.items) }

@@ -23,11 +23,11 @@ pub const MAX_CHUNKS: usize = 32;
 
 /// A part of a table: chunks in order, none empty.
 #[derive(Drop)]
-pub struct Row<K, V> {
+pub struct MapRow<K, V> {
     chunks: Vec<Arc<Chunk<K, V>, Global>>,
 }
 
-impl<K, V> Model for Row<K, V> {
+impl<K, V> Model for MapRow<K, V> {
     ghost use Rattle.std.specs.Prelude.{List};
     ghost use Rattle.std.specs.Coded.{coded_list, coded×};
     ghost use Rattle.rt_map.specs.inside.Joined.{joined, AllFilled};
@@ -41,22 +41,22 @@ impl<K, V> Model for Row<K, V> {
     ghost invariant = { λ a. AllFilled a.chunks.items };
 }
 
-impl<K, V> Row<K, V> {
+impl<K, V> MapRow<K, V> {
     /// A row with nothing in it.
-    pub fn new(alloc: Global) -> Row<K, V>
+    pub fn new(alloc: Global) -> MapRow<K, V>
         ensures { result ≡ [] }
     {
-        Row {
+        MapRow {
             chunks: Vec::new(alloc),
         }
     }
 
     /// A row of these parts.
-    pub fn of(chunks: Vec<Arc<Chunk<K, V>, Global>>) -> Row<K, V>
+    pub fn of(chunks: Vec<Arc<Chunk<K, V>, Global>>) -> MapRow<K, V>
         requires { AllFilled chunks.items }
         ensures { result ≡ joined chunks.items }
     {
-        Row { chunks }
+        MapRow { chunks }
     }
 
     /// The parts.
@@ -346,7 +346,7 @@ fn halves_of<K: Drop, V: Drop>(
     alloc: Global,
     parts: &[Arc<Chunk<K, V>, Global>],
     cut: usize,
-) -> Result<(Row<K, V>, Row<K, V>), AllocError>
+) -> Result<(MapRow<K, V>, MapRow<K, V>), AllocError>
     requires left { 0 < cut }
     requires right { cut < length parts.now }
     requires filled { AllFilled parts.now }
@@ -356,16 +356,16 @@ fn halves_of<K: Drop, V: Drop>(
 {
     let left = copy_parts(alloc, &parts[..cut])?;
     let right = copy_parts(alloc, &parts[cut..])?;
-    Ok((Row { chunks: left }, Row { chunks: right }))
+    Ok((MapRow { chunks: left }, MapRow { chunks: right }))
 }
 
-impl<K: Drop, V: Drop> Row<K, V> {
+impl<K: Drop, V: Drop> MapRow<K, V> {
     /// The row in two halves; `None` where it can't be cut there.
     pub fn halves(
         &self,
         alloc: Global,
         cut: usize,
-    ) -> Result<Option<(Row<K, V>, Row<K, V>)>, AllocError>
+    ) -> Result<Option<(MapRow<K, V>, MapRow<K, V>)>, AllocError>
         ensures all { IfOk result (λ o. IfSome o (λ p. p.0 ++ p.1 ≡ self.now)) }
         ensures left { IfOk result (λ o. IfSome o (λ p. 0 < length p.0)) }
         ensures right { IfOk result (λ o. IfSome o (λ p. 0 < length p.1)) }
@@ -378,18 +378,18 @@ impl<K: Drop, V: Drop> Row<K, V> {
     }
 }
 
-impl<K: Drop, V: Drop> Clone for Row<K, V> {
+impl<K: Drop, V: Drop> Clone for MapRow<K, V> {
     ghost use Rattle.std.specs.Prelude.{◌≡◌};
 
     ghost is_clone = { λ x y. y ≡ x };
 
-    fn clone(&self) -> Result<Row<K, V>, AllocError> {
+    fn clone(&self) -> Result<MapRow<K, V>, AllocError> {
         let chunks = copy_parts(*self.chunks.allocator(), self.chunks.as_slice())?;
-        Ok(Row { chunks })
+        Ok(MapRow { chunks })
     }
 }
 
-impl<K: Ord, V> Row<K, V> {
+impl<K: Ord, V> MapRow<K, V> {
     /// The value at the key.
     pub fn get(&self, key: &K) -> Option<&V>
         requires { IsStrictlySortedBy K.cmp (keys_of self.now) }
@@ -407,7 +407,7 @@ impl<K: Ord, V> Row<K, V> {
     }
 }
 
-impl<K: Ord + Share, V: Share> Row<K, V> {
+impl<K: Ord + Share, V: Share> MapRow<K, V> {
     /// Puts a value at a key, and answers the one that was there.
     pub fn insert(&mut self, alloc: Global, key: K, value: V) -> Result<Option<V>, AllocError>
         requires { IsStrictlySortedBy K.cmp (keys_of self.old) }

@@ -13,7 +13,7 @@ ghost use Rattle.std.specs.Borrow.{sem};
 ghost use Rattle.rt_map.specs.Lent.{LendsInTable};
 
 use crate::map::{NoSlot, Share};
-use crate::row::{MAX_CHUNKS, Row};
+use crate::row::{MAX_CHUNKS, MapRow};
 use std::alloc::{AllocError, Global};
 use std::marker::Model;
 use std::sync::Arc;
@@ -21,7 +21,7 @@ use std::sync::Arc;
 /// All parts of a large map: rows in order, none empty.
 #[derive(Drop)]
 pub struct Table<K, V> {
-    rows: Vec<Arc<Row<K, V>, Global>>,
+    rows: Vec<Arc<MapRow<K, V>, Global>>,
 }
 
 impl<K, V> Model for Table<K, V> {
@@ -40,7 +40,7 @@ impl<K, V> Model for Table<K, V> {
 
 impl<K, V> Table<K, V> {
     /// A table of these parts.
-    pub fn of(rows: Vec<Arc<Row<K, V>, Global>>) -> Table<K, V>
+    pub fn of(rows: Vec<Arc<MapRow<K, V>, Global>>) -> Table<K, V>
         requires { AllFilled rows.items }
         ensures { result ≡ joined rows.items }
     {
@@ -48,7 +48,7 @@ impl<K, V> Table<K, V> {
     }
 
     /// The parts.
-    pub fn parts(&self) -> &[Arc<Row<K, V>, Global>]
+    pub fn parts(&self) -> &[Arc<MapRow<K, V>, Global>]
         ensures entries { joined result.now ≡ self.now }
         ensures filled { AllFilled result.now }
     {
@@ -73,7 +73,7 @@ impl<K, V> Table<K, V> {
 }
 
 // The first entry of the first part.
-fn first_of<K, V>(parts: &[Arc<Row<K, V>, Global>]) -> &(K, V)
+fn first_of<K, V>(parts: &[Arc<MapRow<K, V>, Global>]) -> &(K, V)
     requires some { 0 < length (joined parts.now) }
     requires filled { AllFilled parts.now }
     ensures { result.now ≡ slice_index_or (joined parts.now) 0 result.now }
@@ -82,7 +82,7 @@ fn first_of<K, V>(parts: &[Arc<Row<K, V>, Global>]) -> &(K, V)
 }
 
 // The last entry of the last part.
-fn last_of<K, V>(parts: &[Arc<Row<K, V>, Global>]) -> &(K, V)
+fn last_of<K, V>(parts: &[Arc<MapRow<K, V>, Global>]) -> &(K, V)
     requires some { 0 < length (joined parts.now) }
     requires filled { AllFilled parts.now }
     ensures { result.now
@@ -92,7 +92,7 @@ fn last_of<K, V>(parts: &[Arc<Row<K, V>, Global>]) -> &(K, V)
 }
 
 // The only part that may have the key.
-pub fn find_part<K: Ord, V>(parts: &[Arc<Row<K, V>, Global>], key: &K) -> usize
+pub fn find_part<K: Ord, V>(parts: &[Arc<MapRow<K, V>, Global>], key: &K) -> usize
     requires some { 0 < length parts.now }
     requires filled { AllFilled parts.now }
     requires sorted { IsStrictlySortedBy K.cmp (keys_of (joined parts.now)) }
@@ -113,7 +113,7 @@ pub fn find_part<K: Ord, V>(parts: &[Arc<Row<K, V>, Global>], key: &K) -> usize
 
 // Cuts a part in two, where it can be cut there.
 fn split_part<K: Drop, V: Drop>(
-    parts: &mut Vec<Arc<Row<K, V>, Global>>,
+    parts: &mut Vec<Arc<MapRow<K, V>, Global>>,
     alloc: Global,
     at: usize,
     cut: usize,
@@ -136,7 +136,7 @@ fn split_part<K: Drop, V: Drop>(
 
 // The only part that may have the key, with room for one more.
 fn part_with_room<K: Ord + Share, V: Share>(
-    parts: &mut Vec<Arc<Row<K, V>, Global>>,
+    parts: &mut Vec<Arc<MapRow<K, V>, Global>>,
     alloc: Global,
     key: &K,
 ) -> Result<usize, AllocError>
@@ -162,7 +162,7 @@ fn part_with_room<K: Ord + Share, V: Share>(
 }
 
 fn insert_in_part<K: Ord + Share, V: Share>(
-    parts: &mut Vec<Arc<Row<K, V>, Global>>,
+    parts: &mut Vec<Arc<MapRow<K, V>, Global>>,
     alloc: Global,
     at: usize,
     key: K,
@@ -183,7 +183,7 @@ fn insert_in_part<K: Ord + Share, V: Share>(
 
 // A first part of one entry.
 fn insert_first<K: Ord + Share, V: Share>(
-    parts: &mut Vec<Arc<Row<K, V>, Global>>,
+    parts: &mut Vec<Arc<MapRow<K, V>, Global>>,
     alloc: Global,
     key: K,
     value: V,
@@ -195,7 +195,7 @@ fn insert_first<K: Ord + Share, V: Share>(
     ensures old { IfOk result (λ old. old ≡ lookup (is_at (K.cmp key)) (joined parts.old.items)) }
     ensures err { OnErr result (joined parts.new.items ≡ joined parts.old.items) }
 {
-    let mut chunk = Row::new(alloc);
+    let mut chunk = MapRow::new(alloc);
     let old = chunk.insert(alloc, key, value)?;
     let chunk = Arc::new(alloc, chunk)?;
     parts.push(chunk)?;
@@ -203,7 +203,7 @@ fn insert_first<K: Ord + Share, V: Share>(
 }
 
 fn insert_into<K: Ord + Share, V: Share>(
-    parts: &mut Vec<Arc<Row<K, V>, Global>>,
+    parts: &mut Vec<Arc<MapRow<K, V>, Global>>,
     alloc: Global,
     key: K,
     value: V,
@@ -224,7 +224,7 @@ fn insert_into<K: Ord + Share, V: Share>(
 }
 
 fn remove_in_part<K: Ord + Share, V: Share>(
-    parts: &mut Vec<Arc<Row<K, V>, Global>>,
+    parts: &mut Vec<Arc<MapRow<K, V>, Global>>,
     at: usize,
     key: &K,
 ) -> Result<Option<V>, AllocError>
@@ -245,7 +245,7 @@ fn remove_in_part<K: Ord + Share, V: Share>(
     Ok(old)
 }
 
-fn get_from<'a, K: Ord, V>(parts: &'a [Arc<Row<K, V>, Global>], key: &K) -> Option<&'a V>
+fn get_from<'a, K: Ord, V>(parts: &'a [Arc<MapRow<K, V>, Global>], key: &K) -> Option<&'a V>
     requires filled { AllFilled parts.now }
     requires sorted { IsStrictlySortedBy K.cmp (keys_of (joined parts.now)) }
     ensures { option_copied result ≡ lookup (is_at (K.cmp key.now)) (joined parts.now) }
@@ -258,7 +258,7 @@ fn get_from<'a, K: Ord, V>(parts: &'a [Arc<Row<K, V>, Global>], key: &K) -> Opti
 }
 
 // The last key of the parts in front of one.
-fn last_in_front<K, V>(parts: &[Arc<Row<K, V>, Global>], at: usize) -> Option<&K>
+fn last_in_front<K, V>(parts: &[Arc<MapRow<K, V>, Global>], at: usize) -> Option<&K>
     requires within { at < length parts.now }
     requires filled { AllFilled parts.now }
     ensures { option_copied result ≡ last_in (keys_of (joined (take at parts.now))) }
@@ -270,7 +270,7 @@ fn last_in_front<K, V>(parts: &[Arc<Row<K, V>, Global>], at: usize) -> Option<&K
 }
 
 // The last key below this one.
-fn before_in<'a, K: Ord, V>(parts: &'a [Arc<Row<K, V>, Global>], key: &K) -> Option<&'a K>
+fn before_in<'a, K: Ord, V>(parts: &'a [Arc<MapRow<K, V>, Global>], key: &K) -> Option<&'a K>
     requires filled { AllFilled parts.now }
     requires sorted { IsStrictlySortedBy K.cmp (keys_of (joined parts.now)) }
     ensures { option_copied result ≡ last_below (K.cmp key.now) (joined parts.now) }
@@ -286,7 +286,7 @@ fn before_in<'a, K: Ord, V>(parts: &'a [Arc<Row<K, V>, Global>], key: &K) -> Opt
 }
 
 fn remove_from<K: Ord + Share, V: Share>(
-    parts: &mut Vec<Arc<Row<K, V>, Global>>,
+    parts: &mut Vec<Arc<MapRow<K, V>, Global>>,
     key: &K,
 ) -> Result<Option<V>, AllocError>
     requires filled { AllFilled parts.old.items }
@@ -307,8 +307,8 @@ fn remove_from<K: Ord + Share, V: Share>(
 // The same parts in a list of their own.
 fn copy_parts<K: Drop, V: Drop>(
     alloc: Global,
-    parts: &[Arc<Row<K, V>, Global>],
-) -> Result<Vec<Arc<Row<K, V>, Global>>, AllocError>
+    parts: &[Arc<MapRow<K, V>, Global>],
+) -> Result<Vec<Arc<MapRow<K, V>, Global>>, AllocError>
     requires { AllFilled parts.now }
     ensures filled { IfOk result (λ copies. AllFilled copies.items) }
     ensures entries { IfOk result (λ copies. joined copies.items ≡ joined parts.now) }

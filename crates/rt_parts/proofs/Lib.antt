@@ -14,8 +14,8 @@ pub mod PathLaws
 pub mod PlaceLaws
 pub mod PushLaws
 pub mod RefreshLaws
-pub mod RenewLaws
-pub mod Rises
+pub mod RenewalLaws
+pub mod RequestLaws
 pub mod SameLaws
 pub mod SeenLaws
 pub mod ViewLaws

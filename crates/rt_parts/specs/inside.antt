@@ -2,6 +2,6 @@ pub mod HeldView
 pub mod Named
 pub mod Pairs
 pub mod Placed
-pub mod Rising
+pub mod Requests
 pub mod Unknown
 pub mod Writes

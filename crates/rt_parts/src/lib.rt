@@ -17,9 +17,8 @@
 
 mod entries;
 mod error;
-mod handing;
+mod hearers;
 mod listeners;
-mod numbers;
 mod places;
 mod renewal;
 mod requests;

@@ -23,7 +23,7 @@ ghost use Rattle.rt_parts.specs.inside.HeldView.{IsHeld, listener_of, shown_in, 
 
 use crate::entries::numbers_in;
 use crate::error::ShownError;
-use crate::handing::{numbers_supplied, pairs_handed};
+use crate::hearers::{numbers_supplied, pairs_handed};
 use crate::places::{ListenerPlace, insert_place, push_at};
 use crate::renewal::{
     end_listened, end_number, end_seat, in_order, numbers_at, numbers_of_form, queries_of,

@@ -11,17 +11,18 @@ ghost use Rattle.rt_world.specs.steps.Closing.{unseated};
 ghost use Rattle.rt_parts.specs.Settling.{settled};
 ghost use Rattle.rt_parts.specs.inside.Writes.{entries_asked};
 
-use crate::numbers::{place_of, take};
 use rt_wire::Asked;
 use rt_world::{Request, pending_law};
 use rt_writes::{Entries, Pending};
 use std::alloc::{AllocError, Global};
-use std::collections::VecDeque;
+use std::collections::BTreeMap;
+use std::collections::btree_map::Values;
 use std::marker::Model;
 
 /// The unsettled requests by number, and the pending writes, which are those among them.
 pub struct Requests {
-    items: VecDeque<Request>,
+    alloc: Global,
+    items: BTreeMap<u64, Request>,
     pending: Pending,
 }
 
@@ -44,6 +45,7 @@ impl Drop for Settled {
 impl Drop for Requests {
     fn drop(self) {
         let Requests {
+            alloc: _,
             items: _,
             pending: _,
         } = self;
@@ -52,14 +54,15 @@ impl Drop for Requests {
 
 impl Model for Requests {
     ghost use Rattle.std.specs.Prelude.{List};
+    ghost use Rattle.std.specs.BTreeMap.{values};
     ghost use Rattle.rt_world.specs.declared.step.Request.{Request};
-    ghost use Rattle.rt_parts.specs.inside.Rising.{IsTied};
+    ghost use Rattle.rt_parts.specs.inside.Requests.{IsTied};
 
     ghost Value = { List Request };
 
-    ghost view = { λ a. a.items.items };
+    ghost view = { λ a. values a.items };
 
-    ghost invariant = { λ a. IsTied a.items.items a.pending };
+    ghost invariant = { λ a. IsTied a.items.entries a.pending };
 }
 
 // The paths and trees that the request's write sets, shared with it; none of what is asked for the end
@@ -82,20 +85,25 @@ fn unseat(request: &mut Request, seat: u64)
     }
 }
 
-// Each of these requests that is a closed seat's stays without a seat.
-fn unseat_each(requests: &mut [Request], seat: u64)
-    ensures { requests.new ≡ map (unseated seat) requests.old }
+// All requests of a closed seat stay without a seat.
+fn unseat_all(requests: &mut BTreeMap<u64, Request>, seat: u64)
+    ensures { requests.new.entries ≡ map (λ e. (e.0, unseated seat e.1)) requests.old.entries }
 {
-    for request in requests.iter_mut() {
+    requests.retain(|_, request| {
         unseat(request, seat);
-    }
+        true
+    });
 }
 
-// All requests of a closed seat stay without a seat.
-fn unseat_all(requests: &mut VecDeque<Request>, seat: u64)
-    ensures { requests.new.items ≡ map (unseated seat) requests.old.items }
+// Adds a request under a number above all others.
+fn push(requests: &mut BTreeMap<u64, Request>, request: Request) -> Result<(), AllocError>
+    requires above { All (λ e. e.0 < request.id) requests.old.entries }
+    ensures added { OnOk result (requests.new.entries
+        ≡ requests.old.entries ++ (request.id, request) ∷ []) }
+    ensures unchanged { OnErr result (requests.new.entries ≡ requests.old.entries) }
 {
-    unseat_each(requests.make_contiguous(), seat);
+    drop(requests.insert(request.id, request)?);
+    Ok(())
 }
 
 impl Requests {
@@ -104,7 +112,8 @@ impl Requests {
         ensures { result ≡ [] }
     {
         Requests {
-            items: VecDeque::new(alloc),
+            alloc,
+            items: BTreeMap::new(alloc),
             pending: Pending::new(alloc),
         }
     }
@@ -116,11 +125,11 @@ impl Requests {
         self.items.len()
     }
 
-    /// The requests, by number, in two parts: the second goes on where the first ends.
-    pub fn as_slices(&self) -> (&[Request], &[Request])
-        ensures { result.0.now ++ result.1.now ≡ self.now }
+    /// The requests, by number.
+    pub fn iter(&self) -> Values<'_, u64, Request>
+        ensures { result ≡ self.now }
     {
-        self.items.as_slices()
+        self.items.values()
     }
 
     /// The writes among them, in order of number.
@@ -130,11 +139,11 @@ impl Requests {
         &self.pending
     }
 
-    /// Whether a request has that number. Finds it by halving.
+    /// Whether a request has that number.
     pub fn is_unsettled(&self, id: u64) -> bool
         ensures { result ≡ list_any (λ r. r.id == id) self.now }
     {
-        place_of(&self.items, id).is_some()
+        self.items.contains_key(&id)
     }
 
     /// Adds a request of a seat, under a number above all others; a write is pending then. What is
@@ -157,27 +166,28 @@ impl Requests {
     {
         // For the prover: what is pending of requests.
         pending_law();
-        let entries = entries_asked(*self.items.allocator(), &asked)?;
-        self.items.push_back(Request {
+        let entries = entries_asked(self.alloc, &asked)?;
+        let request = Request {
             id,
             seat: Some(seat),
             asked,
-        })?;
+        };
+        push(&mut self.items, request)?;
         let Some(entries) = entries else {
             return Ok(());
         };
         match self.pending.add_apart(id, entries) {
             Ok(()) => Ok(()),
             Err(error) => {
-                drop(self.items.pop_back());
+                drop(self.items.pop_last());
                 Err(error)
             }
         }
     }
 
     /// Takes the request of that number out, accepted or refused, and says whose it was and which
-    /// entries are pending no more; none where it is not unsettled. Finds the request by halving; where
-    /// it is the oldest, no other moves.
+    /// entries are pending no more; none where it is not unsettled. Whichever request it is, no other
+    /// moves but the few beside it in its node of the map.
     ///
     /// # Errors
     ///
@@ -191,12 +201,12 @@ impl Requests {
         // For the prover: what is pending of requests.
         pending_law();
         let entries = self.pending.take(id)?;
-        let Some(request) = take(&mut self.items, id) else {
+        let Some(request) = self.items.remove(&id) else {
             return Ok(None);
         };
         let Request { seat, asked, .. } = request;
         drop(asked);
-        let entries = entries.unwrap_or(Vec::new(*self.items.allocator()));
+        let entries = entries.unwrap_or(Vec::new(self.alloc));
         Ok(Some(Settled {
             seat,
             entries: Entries::of(entries),

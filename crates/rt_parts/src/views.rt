@@ -377,7 +377,8 @@ fn unknown_keys(
 fn take_child(alloc: Global, tree: &mut Tree, key: &Key) -> Result<(), AllocError>
     ensures { OnOk result (tree.new ≡ without_child tree.old key.now) }
 {
-    tree.put_child(alloc, key, Tree::null())
+    tree.put_child(alloc, key, Tree::null())?;
+    Ok(())
 }
 
 // What is seen, without the children that are not known. It looks at each child once, and changes

@@ -18,7 +18,7 @@ use rt_cover::{Cover, Delta, Kept, KeptList};
 use rt_parts::{Listeners, Requests, ShownError};
 use rt_query::Shown;
 use rt_wire::{Asked, VERSION};
-use rt_world::{ClientMessage, CoreError, Limits, Note, Report, Request};
+use rt_world::{ClientMessage, CoreError, Limits, Note, Report};
 use std::alloc::{AllocError, Global};
 use std::collections::VecDeque;
 use std::marker::Model;
@@ -267,21 +267,6 @@ pub(crate) fn send_asked(
     Ok(())
 }
 
-// Asks for these requests.
-fn send_part(
-    alloc: Global,
-    outgoing: &mut VecDeque<ClientMessage>,
-    requests: &[Request],
-) -> Result<(), AllocError>
-    ensures { OnOk result
-        (outgoing.new.items ≡ outgoing.old.items ++ map request_message requests.now) }
-{
-    for request in requests {
-        send_asked(alloc, outgoing, true, request.id, &request.asked)?;
-    }
-    Ok(())
-}
-
 // Asks for all unsettled requests.
 pub(crate) fn send_requests(
     alloc: Global,
@@ -291,7 +276,8 @@ pub(crate) fn send_requests(
     ensures { OnOk result
         (outgoing.new.items ≡ outgoing.old.items ++ map request_message requests.now) }
 {
-    let (front, back) = requests.as_slices();
-    send_part(alloc, outgoing, front)?;
-    send_part(alloc, outgoing, back)
+    for request in requests.iter() {
+        send_asked(alloc, outgoing, true, request.id, &request.asked)?;
+    }
+    Ok(())
 }

@@ -25,6 +25,7 @@ use crate::path::Path;
 use rt_map::{NoSlot, OrdMap, Share};
 use std::alloc::{AllocError, Global};
 use std::marker::Model;
+use std::mem;
 use std::slice::from_ref;
 pub use text::{tree_from_value, tree_of_value, value_of_tree, write_leaf, write_tree};
 
@@ -231,25 +232,53 @@ impl Tree {
     }
 
     /// Puts a tree in the place of the child at the key, as [`Tree::put`] does at the path of that key
-    /// alone. Makes no path, and doesn't walk the tree.
+    /// alone, and gives back the child that stood there; `None` where there was none. Makes no path, and
+    /// doesn't walk the tree.
     ///
     /// # Errors
     ///
     /// `AllocError` where memory is missing. The tree is dropped then, and nothing changes.
-    pub fn put_child(&mut self, alloc: Global, key: &Key, tree: Tree) -> Result<(), AllocError>
+    pub fn put_child(
+        &mut self,
+        alloc: Global,
+        key: &Key,
+        tree: Tree,
+    ) -> Result<Option<Tree>, AllocError>
         requires { levels tree ≤ MAX_KEYS }
         ensures ok { OnOk result (self.new ≡ put self.old (key.now ∷ []) tree) }
+        ensures old { IfOk result (λ old. old ≡ child_of (children_of self.old) key.now) }
         ensures err { OnErr result (self.new ≡ self.old) }
     {
         // For the prover: it is a key.
         let _text = key.text();
         let place = from_ref(key);
         if self.is_emptied(place, &tree) {
+            let old = copy_of(alloc, self.child_at(key))?;
             *self = Tree::null();
-            return Ok(());
+            return Ok(old);
         }
-        self.put_at(alloc, place, tree)?;
-        Ok(())
+        self.replace_child(alloc, key, tree)
+    }
+
+    // The same where something is left then.
+    fn replace_child(
+        &mut self,
+        alloc: Global,
+        key: &Key,
+        tree: Tree,
+    ) -> Result<Option<Tree>, AllocError>
+        requires fits { MayStandAt (key.now ∷ []) tree }
+        requires left { is_null (put self.old (key.now ∷ []) tree) ≡ false }
+        ensures ok { OnOk result (self.new ≡ put self.old (key.now ∷ []) tree) }
+        ensures old { IfOk result (λ old. old ≡ child_of (children_of self.old) key.now) }
+        ensures err { OnErr result (self.new ≡ self.old) }
+    {
+        if let Node::Object(children) = &mut self.node {
+            let old = replace_in(children, alloc, key, tree)?;
+            return Ok(old);
+        }
+        self.put_at(alloc, from_ref(key), tree)?;
+        Ok(None)
     }
 
     // Puts a tree at keys where something is left then.
@@ -417,6 +446,43 @@ fn add_child(
     let key = key.copy()?;
     children.insert(alloc, key, branch)?;
     Ok(())
+}
+
+// An equal tree, where there is one.
+fn copy_of(alloc: Global, tree: Option<&Tree>) -> Result<Option<Tree>, AllocError>
+    ensures { IfOk result (λ copy. copy ≡ option_copied tree.entry) }
+{
+    match tree {
+        Some(tree) => Ok(Some(tree.copy(alloc)?)),
+        None => Ok(None),
+    }
+}
+
+// Puts a tree in the place of the child at `key`, and gives that child back; null takes it out.
+fn replace_in(
+    children: &mut OrdMap<Key, Tree>,
+    alloc: Global,
+    key: &Key,
+    tree: Tree,
+) -> Result<Option<Tree>, AllocError>
+    requires allowed { MayStandAt (key.now ∷ []) tree }
+    requires kept { IsObject children.old.entries }
+    ensures ok { OnOk result (PutsBelow children.old.entries children.new.entries key.now [] tree) }
+    ensures old { IfOk result (λ old. old ≡ child_of children.old.entries key.now) }
+    ensures err { OnErr result (children.new.entries ≡ children.old.entries) }
+    ensures ordered { IsOrdered key_cmp children.new }
+{
+    if tree.is_null() {
+        return children.remove(key);
+    }
+    match children.slot(key) {
+        Ok(child) => Ok(Some(mem::replace(child, tree))),
+        Err(NoSlot::Absent) => {
+            add_child(children, alloc, key, &[], tree)?;
+            Ok(None)
+        }
+        Err(NoSlot::NoMemory) => Err(AllocError),
+    }
 }
 
 // Puts a tree at a path below the child at `key`, or takes that child out where nothing is left of

@@ -10,17 +10,15 @@
 mod change;
 mod difference;
 mod examples;
-mod kinds;
 mod position;
-mod replay;
 mod seen;
 mod touch;
 mod view;
 mod window;
 
-pub use change::{Batch, Change, ChangeList};
+pub use change::{
+    Batch, Change, ChangeList, Kinds, apply_changes, of_kinds, replay_laws, run_laws, turn_laws,
+};
 pub use difference::changes;
 pub use examples::{kind_examples, order_examples, plain_examples, view_examples, window_examples};
-pub use kinds::{Kinds, of_kinds};
-pub use replay::{apply_changes, replay_laws, run_laws, turn_laws};
 pub use view::{View, ViewError};

@@ -221,22 +221,16 @@ pub fn copy_leaf(alloc: Global, tree: &Tree) -> Result<Option<Leaf>, AllocError>
     }
 }
 
-// The child of a key. It is not null, and fits below a key.
-pub fn child_at<'a>(tree: &'a Tree, key: &Key) -> Option<&'a Tree>
-    ensures child { option_copied result ≡ child_of (children_of tree.now) key.now }
-    ensures full { IfSome result (λ child. is_null child.now ≡ false) }
-    ensures fits { IfSome result (λ child. levels child.now ≤ MAX_KEYS) }
-{
-    match tree.children()?.get(key) {
-        Some(child) => Some(child),
-        None => None,
-    }
-}
-
-// Puts a child in the place of a tree's own. It fits, so only memory can refuse.
-pub fn put_child(tree: &mut Tree, alloc: Global, key: &Key, child: &Tree) -> Result<(), AllocError>
+// Puts a child in the place of a tree's own, and gives that one back. It fits, so only memory can refuse.
+pub fn put_child(
+    tree: &mut Tree,
+    alloc: Global,
+    key: &Key,
+    child: &Tree,
+) -> Result<Option<Tree>, AllocError>
     requires { levels child.now ≤ MAX_KEYS }
-    ensures { OnOk result (tree.new ≡ put tree.old (key.now ∷ []) child.now) }
+    ensures put { OnOk result (tree.new ≡ put tree.old (key.now ∷ []) child.now) }
+    ensures old { IfOk result (λ old. old ≡ child_of (children_of tree.old) key.now) }
 {
     let child = child.copy(alloc)?;
     tree.put_child(alloc, key, child)
@@ -246,7 +240,8 @@ pub fn put_child(tree: &mut Tree, alloc: Global, key: &Key, child: &Tree) -> Res
 pub fn drop_child(tree: &mut Tree, alloc: Global, key: &Key) -> Result<(), AllocError>
     ensures { OnOk result (tree.new ≡ put tree.old (key.now ∷ []) null) }
 {
-    put_child(tree, alloc, key, &Tree::null())
+    put_child(tree, alloc, key, &Tree::null())?;
+    Ok(())
 }
 
 // The object of the rows, each of which fits below a key.

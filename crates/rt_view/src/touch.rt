@@ -22,8 +22,8 @@ use crate::change::{ChangeList, stays};
 use crate::difference::{
     ChildRef, Guess, listed, seek_child, tell_alone, tell_filtered, tell_plain,
 };
-use crate::position::{Position, child_at, copy_leaf, put_child};
-use crate::seen::{Seen, copy_tree, in_key_order, note_stands, note_turned};
+use crate::position::{Position, copy_leaf, put_child};
+use crate::seen::{Seen, in_key_order, note_stands, note_turned};
 use crate::window::{OrderedChildren, Turned};
 use rt_map::OrdMap;
 use rt_order::{Index, sort_value, value_cmp};
@@ -119,10 +119,9 @@ fn touch_child(
         → KeepsSeen first (value_at (shown_in window.old)) (kept_by noted.old.items)
         → KeepsSeen first (value_at (shown_in window.new)) (kept_by noted.new.items)) }
 {
-    let old = copy_tree(alloc, child_at(known, key))?;
+    let old = put_child(known, alloc, key, child)?;
     let left = take_out(window, alloc, query, key, old.as_ref(), child)?;
     let came = bring_in(window, alloc, query, key, child)?;
-    put_child(known, alloc, key, child)?;
     note_turned(noted, alloc, key, old.as_ref(), child, &left, &came)
 }
 
@@ -220,9 +219,8 @@ fn touch_alone(
     ensures changes { IfOk result (λ list. list ≡ changes query.now.index
         (Some (select query.now known.old)) (select query.now known.new)) }
 {
-    let old = copy_tree(alloc, child_at(known, key))?;
     let leaf = copy_leaf(alloc, known)?;
-    put_child(known, alloc, key, child)?;
+    let old = put_child(known, alloc, key, child)?;
     tell_alone(alloc, query, known, key, old.as_ref(), child, leaf.as_ref())
 }
 
@@ -241,8 +239,7 @@ fn touch_there(
         → KeepsSeen first (stands_in known.old) (kept_by noted.old.items)
         → KeepsSeen first (stands_in known.new) (kept_by noted.new.items)) }
 {
-    let old = copy_tree(alloc, child_at(known, key))?;
-    put_child(known, alloc, key, child)?;
+    let old = put_child(known, alloc, key, child)?;
     note_stands(noted, alloc, key, old.as_ref(), child)
 }
 

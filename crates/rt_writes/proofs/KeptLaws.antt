@@ -299,7 +299,7 @@ joined_entries : (w : Write) (ws : List Write) (q : Path) (t : PathTree)
 joined_entries w ws q t = ap (fold (overlaid q) t) (within-append w.entries (assignments ws) q) ∙ fold-append (overlaid q) t (within w.entries q) (within (assignments ws) q)
 
 -- no later write has that number
-none_without : (id : ℕ) (ws : List Write) → After id ws → without id ws ≡ ws
+pub none_without : (id : ℕ) (ws : List Write) → After id ws → without id ws ≡ ws
 none_without id [] h = refl
 none_without id (w ∷ ws) h =
     let less : id < w.id = h.0 in
@@ -310,7 +310,7 @@ after_less : (m n : ℕ) (ws : List Write) → m < n → After n ws → After m 
 after_less m n [] l h = tt
 after_less m n (w ∷ ws) l h = let less : n < w.id = h.0 in (omega arith, after_less m n ws l h.1)
 
-no_within : (q : Path) (es : List Assignment) → list_any (below q) es ≡ false → within es q ≡ []
+pub no_within : (q : Path) (es : List Assignment) → list_any (below q) es ≡ false → within es q ≡ []
 no_within q [] e = refl
 no_within q (a ∷ es) e =
     let parts = or_false (below q a) (list_any (below q) es) e in

@@ -1,4 +1,6 @@
 pub mod AtChild
+pub mod BackLaws
+pub mod ByNumberLaws
 pub mod KeptLaws
 pub mod LayLaws
 pub mod LeafLaws

@@ -1,7 +1,7 @@
 -- Writes by their numbers: what the tree of paths keeps when one comes or goes, and which of them an
 -- overlay needs.
 use Rattle.std.proofs.Common.{◌≡◌, ◌==◌, ◌≤◌, ◌<◌, ℕ, suc, Bool, true, false, cond, not, ◌&&◌, ◌||◌, List, [], ◌∷◌, ◌++◌, length, get_or, nat_lt, Option, Some, None, is_some, refl, sym, ap, subst, ◌∙◌, arith, eqb-true, ⊎_elim}
-use Rattle.std.specs.List.{All, AllPairs, fold, filter, find, list_any, position, remove}
+use Rattle.std.specs.List.{All, AllPairs, fold, filter, find, list_any}
 use Rattle.std.specs.Cmp.{unsigned_tied, tied_itself, nat_cmp_total}
 use Rattle.std.specs.Ordering.{nat_cmp, is_eq, is_lt}
 use Rattle.std.specs.declared.cmp.Ordering.TheVariants.{Less, Equal, Greater}
@@ -11,22 +11,20 @@ use Rattle.std.proofs.lemmas.Bool.{ltb-true, ltb-false}
 use Rattle.std.proofs.lemmas.Cmp.{ranked}
 use Rattle.std.proofs.lemmas.List.Folds.{list_any-append, list_any_at, list_any_none}
 use Rattle.std.specs.Option.{option_map_or, option_and_then}
-use Rattle.std.specs.Prelude.{IsTrue, IfSome}
+use Rattle.std.specs.Prelude.{IsTrue}
 use mathlib.Core.List.{append-nil}
 use Rattle.std.proofs.lemmas.List.Sums.{fold-append}
 use Rattle.std.proofs.lemmas.List.Concat.{flat_map-append}
 use Rattle.rt_tree.specs.PathTree.{Key, Path, PathTree, null, key_cmp, path_eq, path_eq-is, path_eq-same, strip, strip-some, strip-append}
-use Rattle.rt_tree.specs.Assignments.{Assignment, is_at_or_above, do_overlap, have_overlap}
+use Rattle.rt_tree.specs.Assignments.{Assignment, is_at_or_above, do_overlap}
 use Rattle.rt_writes.specs.Writes.{Write, assignments, overlaid, overlay, sets_whole, sets_child_whole, without, touches, IsShallow}
 use Rattle.rt_writes.specs.Kept.{IsKept}
 use Rattle.std.proofs.lemmas.List.Kept.{AllPairs-filter}
 use Rattle.std.proofs.lemmas.List.Elements.{All-filter}
-use Rattle.std.proofs.lemmas.List.Quantifiers.{position-Some}
 use Rattle.rt_writes.specs.laws.TouchLaws.{fold-whole}
 use Rattle.rt_writes.specs.declared.spots.Spot.{Spot}
 use Rattle.rt_writes.specs.inside.Spots.{under_of, below_of, spot_at, has_here, has_under, has_full, place_at, tree_at, within, is_entry, is_full, AddsAll, ForgetsAll, IsAbove, IsLast, some_write, some_entry, IsMerged, IsPending, is_later, after}
 use Rattle.rt_writes.proofs.Lists.{list_any-flat_map}
-use Rattle.rt_writes.specs.laws.Places.{found_at, others_left}
 use Rattle.rt_writes.proofs.SpotLaws.{has_place}
 use Rattle.rt_writes.proofs.AtChild.{at_itself, at_other}
 
@@ -459,16 +457,16 @@ is_child_whole ws s p k b m h =
         cc (g.1 ((get_or ws i d).id, m.here (p ++ k ∷ []) (get_or ws i d).id ∙ at_write (λ a. path_eq a.0 (p ++ k ∷ [])) ws i d l e))))
 
 -- one write, found or not
-pub one_write : (p : Path) (t : PathTree) (ws : List Write) (id i : ℕ) (d : Write) → Rising ws → position (λ w. w.id == id) ws ≡ Some i
-    → overlay p t (filter (λ w. w.id == id) ws) ≡ fold (overlaid p) t (get_or ws i d).entries
-one_write p t ws id i d r e = ap (overlay p t) (found ws r (found_at (λ w. w.id == id) ws i d e)) ∙ ap (fold (overlaid p) t) (append-nil (get_or ws i d).entries)
+pub one_write : (p : Path) (t : PathTree) (ws : List Write) (id : ℕ) (d : Write) → Rising ws → find (λ w. w.id == id) ws ≡ Some d
+    → overlay p t (filter (λ w. w.id == id) ws) ≡ fold (overlaid p) t d.entries
+one_write p t ws id d r e = ap (overlay p t) (found ws r e) ∙ ap (fold (overlaid p) t) (append-nil d.entries)
   where
-    found : (vs : List Write) → Rising vs → find (λ w. w.id == id) vs ≡ Some (get_or ws i d) → filter (λ w. w.id == id) vs ≡ get_or ws i d ∷ []
+    found : (vs : List Write) → Rising vs → find (λ w. w.id == id) vs ≡ Some d → filter (λ w. w.id == id) vs ≡ d ∷ []
     found [] h f = cc
     found (v ∷ vs) h f =
-        elim (v.id == id) as (λ b. (v.id == id) ≡ b → cond b (Some v) (find (λ w. w.id == id) vs) ≡ Some (get_or ws i d) → cond b (v ∷ filter (λ w. w.id == id) vs) (filter (λ w. w.id == id) vs) ≡ get_or ws i d ∷ []) [
+        elim (v.id == id) as (λ b. (v.id == id) ≡ b → cond b (Some v) (find (λ w. w.id == id) vs) ≡ Some d → cond b (v ∷ filter (λ w. w.id == id) vs) (filter (λ w. w.id == id) vs) ≡ d ∷ []) [
           | true ↦ λ s g.
-              let same : v ≡ get_or ws i d = cc in
+              let same : v ≡ d = cc in
               (λ z. same z ∷ none_pass (λ w. w.id == id) v.id vs (λ w q. let eq : w.id ≡ id = eqb-true w.id id q in let is : v.id ≡ id = eqb-true v.id id s in omega arith) h.0 z)
           | false ↦ λ s g. found vs h.1 g
         ] refl f
@@ -482,17 +480,17 @@ no_write p t (w ∷ ws) id e =
     ] e
 
 -- ---- the pending writes
-pub rising_pending : (ws vs : List Write) (merged : Option Spot) → IsPending ws merged → ws ≡ vs → Rising vs
+pub rising_pending : (ws vs : List Write) (merged : Spot) → IsPending ws merged → ws ≡ vs → Rising vs
 rising_pending ws vs merged h is = subst Rising is (rising_of ws h.kept.rises)
 
-pub merged_pending : (ws vs : List Write) (merged : Option Spot) (root : Spot) → IsPending ws merged → ws ≡ vs → merged ≡ Some root → IsMerged vs root
-merged_pending ws vs merged root h is some = subst (λ o. IfSome o (IsMerged vs)) some (subst (λ xs. IfSome merged (IsMerged xs)) is h.tree)
+pub merged_pending : (ws vs : List Write) (merged : Spot) → IsPending ws merged → ws ≡ vs → IsMerged vs merged
+merged_pending ws vs merged h is = subst (λ xs. IsMerged xs merged) is h.tree
 
 pub nothing_merged : (s : Spot) → ((q : Path) (j : ℕ) → has_here s q j ≡ false) → ((q : Path) (j : ℕ) → place_at s q j ≡ None) → ((q : Path) (j : ℕ) → has_under s q j ≡ false) → ((q : Path) (j : ℕ) → has_full s q j ≡ false) → ((q : Path) → tree_at s q ≡ None) → IsMerged [] s
 nothing_merged s here place under full tree = record { here = here; under = under; full = full; places = λ q j i e. cc (sym (place q j) ∙ e); trees = λ q u e. cc (sym (tree q) ∙ e) }
 
-pub nothing_pending : (ws : List Write) (s : Spot) → ws ≡ [] → ((q : Path) (j : ℕ) → has_here s q j ≡ false) → ((q : Path) (j : ℕ) → place_at s q j ≡ None) → ((q : Path) (j : ℕ) → has_under s q j ≡ false) → ((q : Path) (j : ℕ) → has_full s q j ≡ false) → ((q : Path) → tree_at s q ≡ None) → IsPending ws (Some s)
-nothing_pending ws s is here place under full tree = subst (λ xs. IsPending xs (Some s)) (sym is) (record {
+pub nothing_pending : (ws : List Write) (s : Spot) → ws ≡ [] → ((q : Path) (j : ℕ) → has_here s q j ≡ false) → ((q : Path) (j : ℕ) → place_at s q j ≡ None) → ((q : Path) (j : ℕ) → has_under s q j ≡ false) → ((q : Path) (j : ℕ) → has_full s q j ≡ false) → ((q : Path) → tree_at s q ≡ None) → IsPending ws s
+nothing_pending ws s is here place under full tree = subst (λ xs. IsPending xs s) (sym is) (record {
   kept = record { rises = λ i j d l m. absurd (omega arith); shallow = λ k d l. absurd (omega arith) };
   apart = λ k d l. absurd (omega arith);
   tree = nothing_merged s here place under full tree;
@@ -505,11 +503,22 @@ whole_child ws p k e =
     ∙ ap (λ b. b || list_any (λ a. path_eq a.0 (p ++ k ∷ [])) (assignments ws)) e)
 
 -- the write of a number touches what its entries touch
-pub touches_at : (ws : List Write) (p : Path) (k : ℕ) (d : Write) → k < length ws
-    → list_any (λ a. do_overlap a.0 p) (get_or ws k d).entries ≡ true → touches ws p ≡ true
-touches_at ws p k d l e =
-    list_any-flat_map (λ a. do_overlap a.0 p) (λ w. w.entries) ws
-    ∙ list_any_at (λ w. list_any (λ a. do_overlap a.0 p) w.entries) ws k d l e
+pub touches_found : (ws : List Write) (p : Path) (id : ℕ) (d : Write) → find (λ w. w.id == id) ws ≡ Some d
+    → list_any (λ a. do_overlap a.0 p) d.entries ≡ true → touches ws p ≡ true
+touches_found ws p id d e h = list_any-flat_map (λ a. do_overlap a.0 p) (λ w. w.entries) ws ∙ among ws e
+  where
+    among : (vs : List Write) → find (λ w. w.id == id) vs ≡ Some d → list_any (λ w. list_any (λ a. do_overlap a.0 p) w.entries) vs ≡ true
+    among [] f = cc
+    among (v ∷ vs) f =
+        elim (v.id == id) as (λ b. cond b (Some v) (find (λ w. w.id == id) vs) ≡ Some d
+        → (list_any (λ a. do_overlap a.0 p) v.entries || list_any (λ w. list_any (λ a. do_overlap a.0 p) w.entries) vs) ≡ true) [
+          | true ↦ λ g.
+              let same : v ≡ d = cc in
+              or_left (list_any (λ a. do_overlap a.0 p) v.entries) (list_any (λ w. list_any (λ a. do_overlap a.0 p) w.entries) vs)
+              (ap (λ w. list_any (λ a. do_overlap a.0 p) w.entries) same ∙ h)
+          | false ↦ λ g.
+              or_right (list_any (λ a. do_overlap a.0 p) v.entries) (list_any (λ w. list_any (λ a. do_overlap a.0 p) w.entries) vs) (among vs g)
+        ] f
 
 -- ---- one write is taken out
 pub kept_without : (ws : List Write) (id : ℕ) → IsKept ws → IsKept (without id ws)
@@ -517,19 +526,3 @@ kept_without ws id h = record {
   rises = AllPairs-filter (λ v w. v.id < w.id) (λ w. not (w.id == id)) ws h.rises;
   shallow = All-filter (λ w. not (w.id == id)) (λ w. All IsShallow w.entries) ws h.shallow;
 }
-
-pub pending_without : (ws rest : List Write) (id i : ℕ) (w : Write) (before after : Option Spot) (es : List Assignment)
-    → IsPending ws before → position (λ v. v.id == id) ws ≡ Some i → w ≡ get_or ws i w → es ≡ w.entries → rest ≡ remove ws i
-    → ((vs : List Write) → AllPairs (λ v w. v.id < w.id) vs → find (λ v. v.id == id) vs ≡ Some (record { id = id; entries = es })
-    → IfSome before (IsMerged vs) → IfSome after (IsMerged (without id vs)))
-    → IsPending rest after
-pending_without ws rest id i w before after es h at is entries left more =
-    let place = position-Some (λ v. v.id == id) ws i w at in
-    let number : w.id ≡ id = ap (λ v. v.id) is ∙ eqb-true _ _ place.1 in
-    let found : find (λ v. v.id == id) ws ≡ Some (record { id = id; entries = es }) =
-    found_at (λ v. v.id == id) ws i w at ∙ ap Some (sym is) ∙ (λ z. Some (record { id = number z; entries = sym entries z })) in
-    subst (λ vs. IsPending vs after) (sym (left ∙ others_left (λ (w : Write). w.id) ws i id place.0 h.kept.rises at)) (record {
-      kept = kept_without ws id h.kept;
-      apart = All-filter (λ w. not (w.id == id)) (λ w. have_overlap w.entries ≡ false) ws h.apart;
-      tree = more ws h.kept.rises found h.tree;
-    })

@@ -83,13 +83,13 @@ here_kept s u = ap (λ r. r.here) (out-roll-Spot (layer s u))
 pub below_kept : (s : Spot) (u : Marks) → (out-Spot (roll-Spot (layer s u))).below ≡ below_of s
 below_kept s u = ap (λ r. r.below) (out-roll-Spot (layer s u))
 
-here_rolled : (h : BTreeMap ℕ ℕ) (u : Marks) (b : BTreeMap Key Spot) → here_of (rolled h u b) ≡ h
+pub here_rolled : (h : BTreeMap ℕ ℕ) (u : Marks) (b : BTreeMap Key Spot) → here_of (rolled h u b) ≡ h
 here_rolled h u b = ap (λ r. r.here) (out-roll-Spot (record { here = h; under = u; below = b }))
 
-under_rolled : (h : BTreeMap ℕ ℕ) (u : Marks) (b : BTreeMap Key Spot) → under_of (rolled h u b) ≡ u
+pub under_rolled : (h : BTreeMap ℕ ℕ) (u : Marks) (b : BTreeMap Key Spot) → under_of (rolled h u b) ≡ u
 under_rolled h u b = ap (λ r. r.under) (out-roll-Spot (record { here = h; under = u; below = b }))
 
-below_rolled : (h : BTreeMap ℕ ℕ) (u : Marks) (b : BTreeMap Key Spot) → below_of (rolled h u b) ≡ b
+pub below_rolled : (h : BTreeMap ℕ ℕ) (u : Marks) (b : BTreeMap Key Spot) → below_of (rolled h u b) ≡ b
 below_rolled h u b = ap (λ r. r.below) (out-roll-Spot (record { here = h; under = u; below = b }))
 
 pub changes_root : (F : Bool → Bool → Bool) → ((b : Bool) → F false b ≡ b) → (place : Option ℕ) (fills : Bool) (old : Spot) (h : BTreeMap ℕ ℕ) (u : Marks) (id : ℕ)

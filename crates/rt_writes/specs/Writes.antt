@@ -3,14 +3,14 @@ use Rattle.std.specs.Prelude.{ℕ, ◌+◌, ◌≤◌, ◌==◌, Bool, not, List
 use Rattle.std.specs.Prelude.{Option, Some, None}
 use Rattle.std.specs.List.{fold, filter, find, flat_map, list_any}
 use Rattle.std.specs.Option.{option_map}
-use Rattle.rt_writes.specs.declared.pending.Write as declared
 use Rattle.rt_tree.specs.declared.limits.TheConstants.{MAX_LEVELS}
 use Rattle.rt_tree.specs.PathTree.{Key, Path, strip, PathTree, sub, put, levels}
 use Rattle.rt_tree.specs.Assignments.{is_at_or_above, do_overlap, Assignment}
 
--- a write: its number `id` and its `entries`, in order, as the code declares it
-abbrev pub Write : Type 0
-Write = declared.Write
+-- a write: its number, and its entries in order
+pub record Write : Type 0 where
+  pub id : ℕ
+  pub entries : List Assignment
 
 -- the entries of the writes, one after another
 abbrev pub assignments : List Write → List Assignment

@@ -1,2 +1,3 @@
+pub mod ByNumber
 pub mod Sorted
 pub mod Spots

@@ -79,20 +79,9 @@ impl Entries {
         some_overlap(*self.items.allocator(), self.items.as_slice())
     }
 
-    // Whether an entry sits at or above the path.
-    pub(crate) fn set_whole(&self, path: &Path) -> bool
-        ensures { result ≡ list_any (λ a. is_at_or_above a.0 path.now) self.now }
-    {
-        self.items.iter().any(|entry| entry.0.is_prefix_of(path))
-    }
-
-    // Whether an entry sits at or above the child's path.
-    pub(crate) fn set_child_whole(&self, path: &Path, key: &Key) -> bool
-        ensures { result ≡ list_any (λ a. is_at_or_above a.0 (path.now ++ key.now ∷ [])) self.now }
-    {
-        self.items
-            .iter()
-            .any(|entry| is_at_or_above_child(&entry.0, path, key))
+    // What the list takes its memory of.
+    pub(crate) fn allocator(&self) -> Global {
+        *self.items.allocator()
     }
 
     // The tree at `path` after each entry, in order.
@@ -121,16 +110,6 @@ pub fn is_shallow(path: &Path, tree: &Tree) -> bool
     ensures { IsTrue result ↔ IsShallow (path.now, tree.now) }
 {
     path.keys().len() + tree.levels() <= MAX_LEVELS
-}
-
-// Whether `at` is at or above the child's path.
-fn is_at_or_above_child(at: &Path, path: &Path, key: &Key) -> bool
-    ensures { result ≡ is_at_or_above at.now (path.now ++ key.now ∷ []) }
-{
-    match at.keys().split_last() {
-        Some((last, above)) if last == key && above == path.keys() => true,
-        _ => at.is_prefix_of(path),
-    }
 }
 
 // The tree at `path` after an entry at `at`: one at or above the path gives its part, one below is

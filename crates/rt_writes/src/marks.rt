@@ -1,6 +1,6 @@
 // Numbers of writes.
 ghost use Rattle.std.specs.Prelude.{◌≡◌, ◌==◌, ◌≤◌, ◌||◌, ◌&&◌, [], ℕ, not, true, ◌↔◌, IsTrue, OnOk};
-ghost use Rattle.std.specs.Prelude.{IfOk, IfSome, None, Some, length};
+ghost use Rattle.std.specs.Prelude.{IfOk, IfSome, None, OnErr, Some, false, length};
 ghost use Rattle.std.specs.Ordering.{nat_cmp};
 ghost use Rattle.std.specs.BTreeSet.{contains};
 ghost use Rattle.rt_tree.specs.PathTree.{is_null};
@@ -59,6 +59,10 @@ impl Marks {
         ensures full { OnOk result ((j : ℕ) → contains nat_cmp self.new.full j
             ≡ ((not (is_null tree.now) && (id == j)) || contains nat_cmp self.old.full j)) }
         ensures tree { OnOk result (self.new.tree ≡ with_put self.old.tree keys.now tree.now) }
+        ensures kept_all { OnErr result ((j : ℕ) → (id == j) ≡ false
+            → contains nat_cmp self.new.all j ≡ contains nat_cmp self.old.all j) }
+        ensures kept_full { OnErr result ((j : ℕ) → (id == j) ≡ false
+            → contains nat_cmp self.new.full j ≡ contains nat_cmp self.old.full j) }
     {
         let before = mem::replace(&mut self.tree, None);
         self.tree = with_put(before, alloc, keys, tree)?;
@@ -141,8 +145,9 @@ pub(crate) fn is_after(last: Option<u64>, number: u64) -> bool
 
 // Adds a number.
 fn note(numbers: &mut BTreeSet<u64>, id: u64) -> Result<(), AllocError>
-    ensures { OnOk result ((j : ℕ) → contains nat_cmp numbers.new j
+    ensures added { OnOk result ((j : ℕ) → contains nat_cmp numbers.new j
         ≡ ((id == j) || contains nat_cmp numbers.old j)) }
+    ensures kept { OnErr result ((j : ℕ) → contains nat_cmp numbers.new j ≡ contains nat_cmp numbers.old j) }
 {
     numbers.insert(id)?;
     Ok(())

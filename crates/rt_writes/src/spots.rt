@@ -1,26 +1,26 @@
 // One tree of the paths at which something is pending.
 ghost use Rattle.std.specs.Prelude.{◌≡◌, ◌==◌, ◌↔◌, ◌++◌, ◌∷◌, [], ℕ, true, false, IsTrue, OnOk, Some, None};
 ghost use Rattle.std.specs.Prelude.{if◌then◌else◌, ◌<◌, ◌≤◌, IfOk, IfSome, not, length, OnErr};
-ghost use Rattle.std.specs.List.{All, fold};
+ghost use Rattle.std.specs.List.{All, fold, list_any};
 ghost use Rattle.std.specs.Option.{option_copied, option_map_or};
 ghost use Rattle.std.specs.Ordering.{nat_cmp};
 ghost use Rattle.std.specs.BTreeMap.{get};
-ghost use Rattle.rt_tree.specs.PathTree.{Path as Keys, null, is_null, levels};
+ghost use Rattle.rt_tree.specs.PathTree.{Path as Keys, null, is_null, levels, path_eq, put};
 ghost use Rattle.rt_writes.specs.inside.Spots.{spot_at, has_here, has_under, has_full, place_at, Adds};
 ghost use Rattle.rt_writes.specs.inside.Spots.{Forgets, AddsAll, ForgetsAll, IsLast, IsAbove, IsBare};
-ghost use Rattle.rt_writes.specs.inside.Spots.{later_of, tree_at, AddsTrees, KeepsTrees, KeepsPart};
+ghost use Rattle.rt_writes.specs.inside.Spots.{later_of, tree_at, AddsTrees, KeepsBut, KeepsTrees, KeepsPart};
 ghost use Rattle.rt_writes.specs.inside.Spots.{IsMergedAt, AreApart, LaysAt, SetsAt, Laid, after, entry_at};
 ghost use Rattle.rt_writes.specs.inside.Spots.{marked, IsShown};
+ghost use Rattle.rt_writes.specs.inside.ByNumber.{writes_of};
 ghost use Rattle.rt_writes.specs.Writes.{IsShallow, overlaid, overlay, sets_whole, touches};
-ghost use Rattle.rt_tree.specs.Assignments.{do_overlap};
+ghost use Rattle.rt_tree.specs.Assignments.{do_overlap, is_at_or_above};
 ghost use Rattle.rt_writes.specs.Kept.{IsKept};
 
-use crate::entries::{copy_part, overlaid};
+use crate::entries::{Entries, copy_part, overlaid};
 use crate::marks::{Marks, is_after};
-use crate::pending::{Write, place_of};
 use rt_tree::{Key, Leaf, MAX_KEYS, Path, Tree};
 use std::alloc::{AllocError, Global};
-use std::collections::{BTreeMap, VecDeque};
+use std::collections::BTreeMap;
 
 // A path at or above which, or below which, an entry of a pending write sits: the numbers of the
 // writes that set the whole of what stands there, each with the place of that entry in its write;
@@ -73,6 +73,8 @@ impl Spot {
             (Adds self.old self.new keys.now id place (not (is_null tree.now))) }
         ensures trees { OnOk result
             (AddsTrees self.old self.new ((keys.now, tree.now) ∷ [])) }
+        ensures kept { OnErr result
+            (KeepsBut (path_eq keys.now) (λ q. is_at_or_above q keys.now) self.old self.new id) }
     {
         self.under.note(alloc, id, keys, tree)?;
         let Some((key, rest)) = keys.split_first() else {
@@ -118,6 +120,8 @@ impl Spot {
         requires { All IsShallow entries.now }
         ensures adds { OnOk result (AddsAll self.old self.new entries.now id) }
         ensures trees { OnOk result (AddsTrees self.old self.new entries.now) }
+        ensures kept { OnErr result (KeepsBut (λ q. list_any (λ a. path_eq a.0 q) entries.now)
+            (λ q. list_any (λ a. is_at_or_above q a.0) entries.now) self.old self.new id) }
     {
         let mut place = 0;
         for entry in entries {
@@ -225,8 +229,9 @@ impl Spot {
 
 // Adds a number, and a place.
 fn note(numbers: &mut BTreeMap<u64, usize>, id: u64, place: usize) -> Result<(), AllocError>
-    ensures { OnOk result ((j : ℕ) → get nat_cmp numbers.new j
+    ensures added { OnOk result ((j : ℕ) → get nat_cmp numbers.new j
         ≡ if id == j then Some place else get nat_cmp numbers.old j) }
+    ensures kept { OnErr result ((j : ℕ) → get nat_cmp numbers.new j ≡ get nat_cmp numbers.old j) }
 {
     numbers.insert(id, place)?;
     Ok(())
@@ -270,19 +275,19 @@ pub(crate) fn sets_child(spot: Option<&Spot>, key: &Key) -> bool
 // below it.
 pub(crate) fn lay_children(
     spot: &Spot,
-    writes: &VecDeque<Write>,
+    writes: &BTreeMap<u64, Entries>,
     last: Option<u64>,
     path: &Path,
     tree: Tree,
 ) -> Result<Tree, AllocError>
     requires tree { IsShallow (path.now, tree) }
-    requires kept { IsKept writes.now.items }
-    requires apart { AreApart writes.now.items }
-    requires merged { IsMergedAt writes.now.items path.now spot.now }
-    requires none { sets_whole (after last writes.now.items) path.now ≡ false }
-    ensures laid { IfOk result (λ done. done ≡ overlay path.now tree (after last writes.now.items)) }
+    requires kept { IsKept (writes_of writes.now) }
+    requires apart { AreApart (writes_of writes.now) }
+    requires merged { IsMergedAt (writes_of writes.now) path.now spot.now }
+    requires none { sets_whole (after last (writes_of writes.now)) path.now ≡ false }
+    ensures laid { IfOk result (λ done. done ≡ overlay path.now tree (after last (writes_of writes.now))) }
     ensures shallow { IfOk result (λ done. IsShallow (path.now, done)) }
-    ensures touched { OnErr result (touches writes.now.items path.now ≡ true) }
+    ensures touched { OnErr result (touches (writes_of writes.now) path.now ≡ true) }
 {
     if !spot.under.has_after(last) {
         return Ok(tree);
@@ -299,20 +304,20 @@ pub(crate) fn lay_children(
 fn lay_child(
     key: &Key,
     child: &Spot,
-    writes: &VecDeque<Write>,
+    writes: &BTreeMap<u64, Entries>,
     last: Option<u64>,
     path: &Path,
     tree: Tree,
 ) -> Result<Tree, AllocError>
     requires tree { IsShallow (path.now, tree) }
-    requires kept { IsKept writes.now.items }
-    requires apart { AreApart writes.now.items }
-    requires merged { IsMergedAt writes.now.items (path.now ++ key.now ∷ []) child.now }
-    requires none { sets_whole (after last writes.now.items) path.now ≡ false }
+    requires kept { IsKept (writes_of writes.now) }
+    requires apart { AreApart (writes_of writes.now) }
+    requires merged { IsMergedAt (writes_of writes.now) (path.now ++ key.now ∷ []) child.now }
+    requires none { sets_whole (after last (writes_of writes.now)) path.now ≡ false }
     ensures laid { IfOk result
-        (Laid (LaysAt writes.now.items (path.now ++ key.now ∷ []) last) path.now tree) }
+        (Laid (LaysAt (writes_of writes.now) (path.now ++ key.now ∷ []) last) path.now tree) }
     ensures shallow { IfOk result (λ done. IsShallow (path.now, done)) }
-    ensures touched { OnErr result (touches writes.now.items path.now ≡ true) }
+    ensures touched { OnErr result (touches (writes_of writes.now) path.now ≡ true) }
 {
     let here = child.last_here();
     if let Some(shown) = child.shown_after(last, here) {
@@ -333,10 +338,19 @@ fn put_shown(alloc: Global, key: &Key, shown: &Tree, tree: Tree) -> Result<Tree,
 {
     let mut done = tree;
     if shown.is_null() {
-        done.put_child(alloc, key, Tree::leaf(Leaf::truth(true)))?;
+        set_child(&mut done, alloc, key, Tree::leaf(Leaf::truth(true)))?;
     }
-    done.put_child(alloc, key, shown.copy(alloc)?)?;
+    set_child(&mut done, alloc, key, shown.copy(alloc)?)?;
     Ok(done)
+}
+
+// Puts a tree in the place of a child.
+fn set_child(tree: &mut Tree, alloc: Global, key: &Key, child: Tree) -> Result<(), AllocError>
+    requires { levels child ≤ MAX_KEYS }
+    ensures { OnOk result (tree.new ≡ put tree.old (key.now ∷ []) child) }
+{
+    tree.put_child(alloc, key, child)?;
+    Ok(())
 }
 
 // ---- what the pending writes lay over a tree, spot by spot: of each path the last tree alone
@@ -345,19 +359,19 @@ fn put_shown(alloc: Global, key: &Key, shown: &Tree, tree: Tree) -> Result<Tree,
 // there the last tree alone, and of those below it what came after.
 pub(crate) fn lay_below(
     spot: &Spot,
-    writes: &VecDeque<Write>,
+    writes: &BTreeMap<u64, Entries>,
     last: Option<u64>,
     path: &Path,
     tree: Tree,
 ) -> Result<Tree, AllocError>
     requires tree { IsShallow (path.now, tree) }
-    requires kept { IsKept writes.now.items }
-    ensures laid { IfOk result (λ done. (x : Keys) → AreApart writes.now.items
-        → IsMergedAt writes.now.items x spot.now
-        → sets_whole (after last writes.now.items) x ≡ false
-        → Laid (LaysAt writes.now.items x last) path.now tree done) }
+    requires kept { IsKept (writes_of writes.now) }
+    ensures laid { IfOk result (λ done. (x : Keys) → AreApart (writes_of writes.now)
+        → IsMergedAt (writes_of writes.now) x spot.now
+        → sets_whole (after last (writes_of writes.now)) x ≡ false
+        → Laid (LaysAt (writes_of writes.now) x last) path.now tree done) }
     ensures shallow { IfOk result (λ done. IsShallow (path.now, done)) }
-    ensures touched { OnErr result (touches writes.now.items path.now ≡ true) }
+    ensures touched { OnErr result (touches (writes_of writes.now) path.now ≡ true) }
 {
     if !spot.under.has_after(last) {
         return Ok(tree);
@@ -376,19 +390,19 @@ pub(crate) fn lay_below(
 fn lay_here(
     spot: &Spot,
     here: Option<u64>,
-    writes: &VecDeque<Write>,
+    writes: &BTreeMap<u64, Entries>,
     last: Option<u64>,
     path: &Path,
     tree: Tree,
 ) -> Result<Tree, AllocError>
     requires tree { IsShallow (path.now, tree) }
-    requires kept { IsKept writes.now.items }
+    requires kept { IsKept (writes_of writes.now) }
     requires here { IsLast (λ j. has_here spot.now [] j ≡ true) here }
-    ensures laid { IfOk result (λ done. (x : Keys) → AreApart writes.now.items
-        → IsMergedAt writes.now.items x spot.now
-        → Laid (SetsAt writes.now.items x last here) path.now tree done) }
+    ensures laid { IfOk result (λ done. (x : Keys) → AreApart (writes_of writes.now)
+        → IsMergedAt (writes_of writes.now) x spot.now
+        → Laid (SetsAt (writes_of writes.now) x last here) path.now tree done) }
     ensures shallow { IfOk result (λ done. IsShallow (path.now, done)) }
-    ensures touched { OnErr result (touches writes.now.items path.now ≡ true) }
+    ensures touched { OnErr result (touches (writes_of writes.now) path.now ≡ true) }
 {
     let Some(number) = here else {
         return Ok(tree);
@@ -425,12 +439,11 @@ fn lay_entry(entry: &(Path, Tree), fills: bool, path: &Path, tree: Tree) -> Resu
 }
 
 // The entry at that place of the write of that number.
-fn entry_of(writes: &VecDeque<Write>, id: u64, place: usize) -> Option<&(Path, Tree)>
-    requires kept { IsKept writes.now.items }
-    ensures { option_copied result ≡ entry_at writes.now.items id place }
+fn entry_of(writes: &BTreeMap<u64, Entries>, id: u64, place: usize) -> Option<&(Path, Tree)>
+    ensures { option_copied result ≡ entry_at (writes_of writes.now) id place }
 {
-    let Some(at) = place_of(writes, id) else {
-        return None;
-    };
-    writes[at].entries.as_slice().get(place)
+    match writes.get(&id) {
+        Some(entries) => entries.as_slice().get(place),
+        None => None,
+    }
 }

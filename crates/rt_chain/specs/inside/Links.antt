@@ -1,33 +1,29 @@
 -- Which slot each key has, and how the nodes in the slots are linked.
-use Rattle.std.specs.Prelude.{◌≡◌, ◌≢◌, ℕ, Bool, false, cond, nat_eq, Option, Some, None, List, [], ◌∷◌, refl}
-use Rattle.std.specs.List.Sorted.{IsStrictlySortedBy}
-use Rattle.std.specs.Map.{keys_of, values_of}
-use Rattle.std.specs.Option.{option_map, option_map_or}
-use Rattle.std.specs.Coded.{Coded, code_by, coded×, coded_ℕ, coded_bool, coded_list, coded_option}
+use Rattle.std.specs.Prelude.{◌≡◌, ℕ, Bool, false, cond, nat_eq, Option, Some, None, List, [], ◌∷◌}
+use Rattle.std.specs.Map.{values_of}
+use Rattle.std.specs.Option.{option_and_then, option_map, option_map_or}
 use Rattle.std.specs.declared.cmp.Ordering.{Ordering}
-use Rattle.slab.specs.Slab.{Slab, Updates, get, slab_code}
-use Rattle.rt_chain.specs.declared.linked_map.Node.{Node}
-use Rattle.rt_chain.specs.Chains.{IsApart, IsOther, head_or}
+use Rattle.slab.specs.Slab.{Slab, Updates, get}
+use Rattle.rt_chain.specs.declared.chain.Node.{Node}
+use Rattle.rt_chain.specs.Chains.{IsApart, IsOther, below, head_or, last_or}
 
--- the keys with their slots, in the keys' order, and the nodes
-pub record Linked (K X : Type 0) : Type 0 where
-  pub places : List (K × ℕ)
-  pub nodes : Slab (Node X)
+-- ---- what a slot has
+module _ {X : Type 0} (s : Slab (Node X)) (n : ℕ) where
+  abbrev pub value_in : Option X
+  value_in = option_map (λ x. x.value) (get s n)
 
--- a node is stored as the tuple of its fields, and so is a chain
-abbrev pub node_code : {X : Type 0} → Coded X → Coded (Node X)
-node_code {X} code =
-    let link = coded_option coded_ℕ in
-    code_by ((X × Bool) × (Option ℕ × Option ℕ))
-    (coded× (coded× code coded_bool) (coded× link link))
-    (λ s. ((s.value, s.marked), (s.previous, s.next)))
-    (λ p. record { value = p.0.0; marked = p.0.1; previous = p.1.0; next = p.1.1 }) (λ _. refl)
+  -- whether it is marked, and its value
+  abbrev pub kept_in : Option (Bool × X)
+  kept_in = option_map (λ x. (x.marked, x.value)) (get s n)
 
-abbrev pub linked_code : {K X : Type 0} → Coded K → Coded X → Coded (Linked K X)
-linked_code {K} {X} key value =
-    code_by (List (K × ℕ) × Slab (Node X))
-    (coded× (coded_list (coded× key coded_ℕ)) (slab_code (node_code value)))
-    (λ c. (c.places, c.nodes)) (λ p. record { places = p.0; nodes = p.1 }) (λ _. refl)
+  abbrev pub is_marked : Bool
+  is_marked = option_map_or (λ x. x.marked) (get s n) false
+
+  abbrev pub slot_next : Option ℕ
+  slot_next = option_and_then (λ x. x.next) (get s n)
+
+  abbrev pub slot_previous : Option ℕ
+  slot_previous = option_and_then (λ x. x.previous) (get s n)
 
 -- ---- links
 
@@ -43,36 +39,22 @@ abbrev pub IsRun : Links → Option ℕ → List ℕ → Option ℕ → Type 0
 IsRun l before [] behind = Unit {0}
 IsRun l before (n ∷ ns) behind = (l n ≡ Some (before, head_or ns behind)) × IsRun l (Some n) ns behind
 
--- the keys rise, their slots are linked in this order, and no other slot has a node
-pub record IsLinked {K X : Type 0} (cmp : K → K → Ordering) (c : Linked K X) : Type 0 where
-  pub rises : IsStrictlySortedBy cmp (keys_of c.places)
-  pub linked : IsRun (links_in c.nodes) None (values_of c.places) None
-  pub apart : IsApart (values_of c.places)
-  pub whole : (n : ℕ) → IsOther n (values_of c.places) → get c.nodes n ≡ None
+-- these slots are linked in this order, none stands twice, and no other slot has a node
+pub record IsLinked {X : Type 0} (s : Slab (Node X)) (slots : List ℕ) : Type 0 where
+  pub linked : IsRun (links_in s) None slots None
+  pub apart : IsApart slots
+  pub whole : (n : ℕ) → IsOther n slots → get s n ≡ None
 
--- ---- values
+-- ---- a key among the others
 
--- the value in a slot
-abbrev pub value_in : {K X : Type 0} → Linked K X → ℕ → Option X
-value_in c n = option_map (λ x. x.value) (get c.nodes n)
+-- the slot of the last key below one that compares to each
+abbrev pub slot_below : {K : Type 0} → (K → Ordering) → List (K × ℕ) → Option ℕ
+slot_below compare places = last_or None (values_of (below compare places))
 
--- what a slot has: whether it is marked, and its value
-abbrev pub kept_in : {K X : Type 0} → Linked K X → ℕ → Option (Bool × X)
-kept_in c n = option_map (λ x. (x.marked, x.value)) (get c.nodes n)
-
-abbrev pub is_marked : {K X : Type 0} → Linked K X → ℕ → Bool
-is_marked c n = option_map_or (λ x. x.marked) (get c.nodes n) false
-
--- with another value, and with another mark
-abbrev pub sets : {X : Type 0} → X → Bool × X → Bool × X
-sets x p = (p.0, x)
-
-abbrev pub marks : {X : Type 0} → Bool → Bool × X → Bool × X
-marks b p = (b, p.1)
-
--- the slots but one have what they had
-abbrev pub KeepsOthers : {K X : Type 0} → Linked K X → Linked K X → ℕ → Type 0
-KeepsOthers old new slot = (n : ℕ) → n ≢ slot → kept_in new n ≡ kept_in old n
+-- the slot behind one, or the first
+abbrev pub slot_after : {K X : Type 0} → Slab (Node X) → List (K × ℕ) → Option ℕ → Option ℕ
+slot_after s places None = head_or (values_of places) None
+slot_after s places (Some n) = slot_next s n
 
 -- ---- how nodes change
 
@@ -101,8 +83,8 @@ module _ {X : Type 0} where
     previous = cond (is_link q n) p node.previous;
   }
 
--- a node came to a slot that was vacant, behind another one and with nothing behind it
-pub record Pushes {X : Type 0} (previous : Option ℕ) (slot : ℕ) (marked : Bool) (value : X)
+-- a node came to a slot that was vacant, between two others
+pub record Pushes {X : Type 0} (previous next : Option ℕ) (slot : ℕ) (marked : Bool) (value : X)
     (old new : Slab (Node X)) : Type 0 where
   pub vacant : get old slot ≡ None
   pub mid : Slab (Node X)
@@ -110,4 +92,4 @@ pub record Pushes {X : Type 0} (previous : Option ℕ) (slot : ℕ) (marked : Bo
   pub came : Updates old mid slot
       (Some (record { value = value; marked = marked; previous = None; next = None }))
   pub linked : (m : ℕ) → get low m ≡ option_map (joined previous (Some slot) m) (get mid m)
-  pub ended : (m : ℕ) → get new m ≡ option_map (joined (Some slot) None m) (get low m)
+  pub ended : (m : ℕ) → get new m ≡ option_map (joined (Some slot) next m) (get low m)

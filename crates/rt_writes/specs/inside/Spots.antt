@@ -1,6 +1,6 @@
 -- What the tree of paths keeps of the pending writes.
 use Rattle.std.specs.Prelude.{◌≡◌, ◌≤◌, ◌<◌, ◌==◌, ℕ, Bool, true, false, not, ◌&&◌, ◌||◌, List, [], ◌∷◌}
-use Rattle.std.specs.Prelude.{◌++◌, ◌⊎◌, max, nat_lt, Option, Some, None, is_some, IfSome, if◌then◌else◌}
+use Rattle.std.specs.Prelude.{◌++◌, ◌⊎◌, max, nat_lt, Option, Some, None, is_some, if◌then◌else◌}
 use Rattle.std.specs.List.{All, fold, filter, find, list_any, slice_get}
 use Rattle.std.specs.Option.{option_map, option_map_or, option_and_then}
 use Rattle.std.specs.Ordering.{nat_cmp}
@@ -115,6 +115,18 @@ KeepsTrees old new es id = (q : Path) (u : PathTree) → tree_at new q ≡ Some 
     → (tree_at old q ≡ Some u)
     × ((list_any (λ a. is_at_or_above q a.0) es ≡ false) ⊎ ((j : ℕ) × (id < j) × (has_here old q j ≡ true)))
 
+-- of other writes than id, and away from some paths, all is as it was: at says where it may set the whole
+-- now, and on where it may have an entry at or below
+pub record KeepsBut (at on : Path → Bool) (old new : Spot) (id : ℕ) : Type 0 where
+  pub here : (q : Path) (j : ℕ) → (at q && (id == j)) ≡ false → has_here new q j ≡ has_here old q j
+  pub under : (q : Path) (j : ℕ) → (on q && (id == j)) ≡ false
+      → has_under new q j ≡ has_under old q j
+  pub full : (q : Path) (j : ℕ) → (on q && (id == j)) ≡ false → has_full new q j ≡ has_full old q j
+  pub places : (q : Path) (j i : ℕ) → (id == j) ≡ false → place_at new q j ≡ Some i
+      → place_at old q j ≡ Some i
+  pub trees : (q : Path) (u : PathTree) → on q ≡ false → tree_at new q ≡ Some u
+      → tree_at old q ≡ Some u
+
 -- u is the part below these keys of the tree that is kept at or above them, where write j sets the
 -- whole of what stands
 abbrev pub KeepsPart : Spot → Path → ℕ → PathTree → Type 0
@@ -186,11 +198,11 @@ IsMerged writes s = IsMergedAt writes [] s
 abbrev pub AreApart : List Write → Type 0
 AreApart writes = All (λ w. have_overlap w.entries ≡ false) writes
 
--- what is so of the pending writes and of their tree, if there is one
-pub record IsPending (writes : List Write) (merged : Option Spot) : Type 0 where
+-- what is so of the pending writes and of their tree
+pub record IsPending (writes : List Write) (merged : Spot) : Type 0 where
   pub kept : IsKept writes
   pub apart : AreApart writes
-  pub tree : IfSome merged (IsMerged writes)
+  pub tree : IsMerged writes merged
 
 -- ---- what a look reads
 -- whether a number is after the last one; each is where there is none

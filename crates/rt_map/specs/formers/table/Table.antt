@@ -21,8 +21,8 @@ use Rattle.rt_map.specs.declared.table.Table.TheInside.{Inside}
 use Rattle.rt_map.specs.declared.table.Table.TheView.{view, invariant}
 use Rattle.rt_map.specs.contracts.table.Table as C
 use Rattle.rt_map.specs.contracts.table.Table.TheInside as I
-use Rattle.rt_map.specs.contracts.row.Row as row
-use Rattle.rt_map.specs.formers.row.Row as rows
+use Rattle.rt_map.specs.contracts.row.MapRow as row
+use Rattle.rt_map.specs.formers.row.MapRow as rows
 
 abbrev pub the_former : Former {0} → Type 0 → Former {0}
 the_former g K = list (entry g K)

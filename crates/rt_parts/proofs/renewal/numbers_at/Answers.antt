@@ -5,7 +5,7 @@ use Rattle.rt_tree.specs.PathTree.{path_eq}
 use Rattle.rt_query.specs.Queries.{Query}
 use Rattle.rt_parts.specs.declared.places.ListenerPlace.{ListenerPlace}
 use Rattle.rt_parts.proofs.PushLaws.{taken_all}
-use Rattle.rt_parts.proofs.RenewLaws.{none_at}
+use Rattle.rt_parts.proofs.RenewalLaws.{none_at}
 use Rattle.rt_parts.proofs.renewal.numbers_at.Goals as goal
 
 pub loop-at-init : goal.loop-at-init

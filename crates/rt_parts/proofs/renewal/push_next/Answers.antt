@@ -4,7 +4,7 @@ use Rattle.rt_tree.specs.PathTree.{path_eq}
 use Rattle.rt_query.specs.Queries.{Query}
 use Rattle.rt_parts.proofs.OrderLaws.{found_behind}
 use Rattle.rt_parts.proofs.PushLaws.{on_both}
-use Rattle.rt_parts.proofs.RenewLaws.{paths_more, paths_same}
+use Rattle.rt_parts.proofs.RenewalLaws.{paths_more, paths_same}
 use Rattle.rt_parts.proofs.renewal.push_next.Goals as goal
 
 pub returns-then-is_at : goal.returns-then-is_at

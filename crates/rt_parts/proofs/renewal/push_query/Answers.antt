@@ -6,7 +6,7 @@ use Rattle.rt_query.specs.QueryEq.{query_eq}
 use Rattle.rt_cache.specs.Recover.{is_among}
 use Rattle.rt_parts.specs.declared.listeners.HeldListener.{HeldListener}
 use Rattle.rt_writes.specs.laws.Places.{found_at, any_found, any_none}
-use Rattle.rt_parts.proofs.RenewLaws.{has_of, none_one, passed_one, pushed_one}
+use Rattle.rt_parts.proofs.RenewalLaws.{has_of, none_one, passed_one, pushed_one}
 use Rattle.rt_parts.proofs.renewal.push_query.Goals as goal
 
 pub returns-in_default : goal.returns-in_default

@@ -4,7 +4,7 @@ use Rattle.rt_tree.specs.PathTree.{path_eq}
 use Rattle.rt_query.specs.Queries.{is_filtered}
 use Rattle.rt_cache.specs.Recover.{is_among}
 use Rattle.rt_parts.proofs.PushLaws.{taken_all}
-use Rattle.rt_parts.proofs.RenewLaws.{has_of, more_of, none_of}
+use Rattle.rt_parts.proofs.RenewalLaws.{has_of, more_of, none_of}
 use Rattle.rt_parts.proofs.renewal.queries_of.Goals as goal
 
 pub loop-number-init : goal.loop-number-init

@@ -3,7 +3,7 @@ use Rattle.std.specs.List.{list_any}
 use Rattle.rt_tree.specs.PathTree.{path_eq}
 use Rattle.rt_query.specs.Queries.{Query, is_filtered}
 use Rattle.rt_cache.specs.Recover.{is_among}
-use Rattle.rt_parts.proofs.RenewLaws.{has_of}
+use Rattle.rt_parts.proofs.RenewalLaws.{has_of}
 use Rattle.rt_parts.proofs.renewal.queries_of.Given as goal
 
 -- those of the numbers so far

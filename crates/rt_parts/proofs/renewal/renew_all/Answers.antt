@@ -3,7 +3,7 @@ use Rattle.rt_world.specs.declared.report.Note.{Note}
 use Rattle.rt_parts.specs.inside.HeldView.{counted_of, pair_of, renewed_pair}
 use Rattle.rt_parts.proofs.Counts.{Counted, counts_in, counts_in_all, counts_step, none_in}
 use Rattle.rt_parts.proofs.RefreshLaws.{drop_past, Pair, pairs_up}
-use Rattle.rt_parts.proofs.RenewLaws.{left_all, left_more, left_of, none_left, none_told, number_stays, of, of_pairs, others, told_all, told_left, told_more}
+use Rattle.rt_parts.proofs.RenewalLaws.{left_all, left_more, left_of, none_left, none_told, number_stays, of, of_pairs, others, told_all, told_left, told_more}
 use Rattle.rt_parts.proofs.renewal.renew_all.Goals as goal
 
 pub loop-number-init : goal.loop-number-init

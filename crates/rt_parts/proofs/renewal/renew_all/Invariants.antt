@@ -1,7 +1,7 @@
 use Rattle.std.proofs.Common.{◌≡◌, ◌++◌, drop, map}
 use Rattle.rt_parts.specs.inside.HeldView.{AreHeld, counted_of, pair_of, renewed_pair}
 use Rattle.rt_parts.proofs.Counts.{counts_in}
-use Rattle.rt_parts.proofs.RenewLaws.{left_of, of, told_left}
+use Rattle.rt_parts.proofs.RenewalLaws.{left_of, of, told_left}
 use Rattle.rt_parts.proofs.renewal.renew_all.Given as goal
 
 -- with those of the numbers that are left, all are renewed and told

@@ -9,7 +9,7 @@ use Rattle.rt_parts.specs.inside.HeldView.{IsHeld, counted_of, pair_of, renewal_
 use Rattle.rt_parts.proofs.Loops.{all_set, rising_same}
 use Rattle.rt_parts.proofs.Numbered.{changed_one, only_there, stay_none, told_none, told_one}
 use Rattle.rt_parts.proofs.RefreshLaws.{none_there, number_of}
-use Rattle.rt_parts.proofs.RenewLaws.{told_pair}
+use Rattle.rt_parts.proofs.RenewalLaws.{told_pair}
 use Rattle.rt_parts.proofs.Counts.{changed_count, counted_number, none_counted, untold}
 use Rattle.rt_parts.proofs.PushLaws.{on_both, on_ok}
 use Rattle.rt_parts.proofs.renewal.renew_number.Goals as goal

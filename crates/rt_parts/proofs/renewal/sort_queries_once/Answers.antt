@@ -3,7 +3,7 @@ use Rattle.std.specs.List.{dedup}
 use Rattle.std.proofs.lemmas.List.Filters.{dedup_is}
 use Rattle.rt_query.specs.QueryEq.{query_eq}
 use Rattle.rt_cache.specs.Recover.{is_among}
-use Rattle.rt_parts.proofs.RenewLaws.{among_once}
+use Rattle.rt_parts.proofs.RenewalLaws.{among_once}
 use Rattle.rt_parts.proofs.renewal.sort_queries_once.Goals as goal
 
 pub returns : goal.returns

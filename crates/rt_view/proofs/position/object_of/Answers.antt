@@ -26,5 +26,5 @@ loop-left-preserved c =
     let within : at < length rows = omega (arith, c.loop-left.invariant.0, c.loop-left-test.true) in
     let list : drop at rows ≡ row ∷ drop c.loop-left.left rows = drop_more rows at row within ∙ (λ i. sym c.index-rows-at.is i ∷ drop (next i) rows) in (
       omega (arith, c.loop-left.invariant.0),
-      c.in_ok-put_child.ensures ∙ ap (λ (t : PathTree). put t (row.key ∷ []) row.value) c.loop-left.invariant.1 ∙ sym (ap (λ (rs : List Row). object (as_children rs)) list),
+      c.in_ok-put_child.ensures.put ∙ ap (λ (t : PathTree). put t (row.key ∷ []) row.value) c.loop-left.invariant.1 ∙ sym (ap (λ (rs : List Row). object (as_children rs)) list),
     )

@@ -18,7 +18,7 @@ returns-clause-kept c =
     c.args.window.now c.take_out.new.window c.bring_in.new.window c.requires.kept old
     (record { limit = c.in_ok-left.ensures.limit; range = c.in_ok-left.ensures.range; known = c.in_ok-left.ensures.known; cut = c.in_ok-left.ensures.taken })
     (record { limit = c.in_ok-came.ensures.limit; range = c.in_ok-came.ensures.range; known = c.in_ok-came.ensures.known; cut = c.in_ok-came.ensures.put })
-    c.in_ok-put_child.ensures)
+    c.in_ok-old.ensures.put)
     c.note_turned.ensures
 
 pub returns-clause-seen : goal.returns-clause-seen

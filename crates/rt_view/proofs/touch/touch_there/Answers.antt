@@ -18,5 +18,5 @@ returns-clause-seen c =
     let old : option_copied c.as_ref.result ≡ child_of (children_of t) k = search rules in
     IfOk-weaker c.note_stands.result _ _
     (λ x told f h. subst (KeepsSeen f (stands_in u)) (sym (told ∙ ap (λ (o : Option PathTree). seen_too k o (non_null v) es) old))
-    (keeps_stands f t u k v es c.in_ok-put_child.ensures h))
+    (keeps_stands f t u k v es c.in_ok-old.ensures.put h))
     c.note_stands.ensures

@@ -1,23 +1,22 @@
-use Rattle.std.proofs.Common.{◌≡◌, [], suc, ◌+◌, Some, None, arith, rules, subst}
-use Rattle.rt_chain.specs.Chains.{CrossesAhead, Chain}
-use Rattle.rt_chain.specs.inside.Halves.{chain_of}
-use Rattle.rt_chain.proofs.Steps.{ahead_step, if_none, no_behind}
+use Rattle.std.proofs.Common.{◌≡◌, [], ◌+◌, Some, None, true, refl, rules, subst, sym, ◌∙◌}
+use Rattle.rt_chain.specs.inside.Halves.{IsCut}
+use Rattle.rt_chain.proofs.Steps.{ahead_step, if_none, nothing_first}
 use Rattle.rt_chain.proofs.chain.Chain.cross_ahead.Goals as goal
 
 pub returns-in_err-slot-clause-none : goal.returns-in_err-slot-clause-none
 returns-in_err-slot-clause-none g c =
+    let a = subst (IsCut g.K.Ord.cmp c.self.inside.places.entries c.self.inside.nodes c.self.inside.last c.self.inside.first c.self.inside.count) c.self.view_is c.self.invariant in
     let none : c.self.inside.first ≡ None = search rules in
-    if_none (c.args.self.now.behind ≡ []) c.from_residual.result (no_behind c.self.inside.linked c.self.invariant c.args.self.now c.self.view_is none)
+    if_none (c.args.self.now.behind ≡ []) c.from_residual.result (nothing_first c.args.self.now.behind (sym a.first_is ∙ none))
 
 pub invariant_of-self : goal.invariant_of-self
 invariant_of-self g c =
+    let a = subst (IsCut g.K.Ord.cmp c.self.inside.places.entries c.self.inside.nodes c.self.inside.last c.self.inside.first c.self.inside.count) c.self.view_is c.self.invariant in
     let is : c.self.inside.first ≡ Some c.in_ok-slot.slot = search rules in
-    let one : c.self.inside.count + 1 ≡ suc c.self.inside.count = omega arith in
-    (ahead_step c.self.inside.linked c.mark.new.self c.in_ok-slot.slot c.self.invariant c.mark.ensures.places c.mark.ensures.others c.mark.ensures.chain is c.mark.ensures.value c.next-self-inside.result c.next-self-inside.ensures (c.self.inside.count + 1) one).0
+    (ahead_step a c.in_ok-slot.slot true c.set_mark.new.nodes c.set_mark.ensures.written c.set_mark.ensures.others refl is c.next_of-self-inside.result c.next_of-self-inside.ensures (c.self.inside.count + 1) (refl)).0
 
 pub returns-clause-crosses : goal.returns-clause-crosses
 returns-clause-crosses g c =
+    let a = subst (IsCut g.K.Ord.cmp c.self.inside.places.entries c.self.inside.nodes c.self.inside.last c.self.inside.first c.self.inside.count) c.self.view_is c.self.invariant in
     let is : c.self.inside.first ≡ Some c.in_ok-slot.slot = search rules in
-    let one : c.self.inside.count + 1 ≡ suc c.self.inside.count = omega arith in
-    subst (λ (o : Chain g.row.K.Denot g.row.V.Denot). CrossesAhead c.in_ok-slot.slot o (chain_of c.mark.new.self)) c.self.view_is
-    (ahead_step c.self.inside.linked c.mark.new.self c.in_ok-slot.slot c.self.invariant c.mark.ensures.places c.mark.ensures.others c.mark.ensures.chain is c.mark.ensures.value c.next-self-inside.result c.next-self-inside.ensures (c.self.inside.count + 1) one).1
+    (ahead_step a c.in_ok-slot.slot true c.set_mark.new.nodes c.set_mark.ensures.written c.set_mark.ensures.others refl is c.next_of-self-inside.result c.next_of-self-inside.ensures (c.self.inside.count + 1) (refl)).1

@@ -1,7 +1,8 @@
-use Rattle.std.proofs.Common.{length, ap, ◌∙◌}
-use Rattle.rt_chain.specs.Chains.{Chain}
-use Rattle.rt_chain.proofs.Halves.{count_front}
+use Rattle.std.proofs.Common.{subst}
+use Rattle.rt_chain.specs.inside.Halves.{IsCut}
 use Rattle.rt_chain.proofs.chain.Chain.front_len.Goals as goal
 
 pub returns : goal.returns
-returns g c = count_front c.self.invariant ∙ ap (λ (o : Chain g.row.K.Denot g.row.V.Denot). length o.front) c.self.view_is
+returns g c =
+    let a = subst (IsCut g.K.Ord.cmp c.self.inside.places.entries c.self.inside.nodes c.self.inside.last c.self.inside.first c.self.inside.count) c.self.view_is c.self.invariant in
+    a.count_is

@@ -7,7 +7,7 @@ use Rattle.rt_parts.specs.inside.Placed.{HaveNumbers}
 use Rattle.rt_parts.specs.Listeners.{Listeners}
 use Rattle.rt_parts.specs.Renewed.{is_listened_at}
 use Rattle.rt_parts.proofs.IndexLaws.{have_due}
-use Rattle.rt_parts.proofs.RenewLaws.{all_of_path, has_of}
+use Rattle.rt_parts.proofs.RenewalLaws.{all_of_path, has_of}
 use Rattle.rt_parts.proofs.listeners.Listeners.queries_at.Goals as goal
 
 pub returns : goal.returns

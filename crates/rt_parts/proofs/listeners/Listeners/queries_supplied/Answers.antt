@@ -8,7 +8,7 @@ use Rattle.rt_parts.specs.inside.HeldView.{HaveSupplied}
 use Rattle.rt_parts.specs.inside.Placed.{IsIndex}
 use Rattle.rt_parts.specs.Listeners.{Listeners}
 use Rattle.rt_parts.specs.Renewed.{is_listened_at}
-use Rattle.rt_parts.proofs.RenewLaws.{has_of, supplied_of_path}
+use Rattle.rt_parts.proofs.RenewalLaws.{has_of, supplied_of_path}
 use Rattle.rt_parts.proofs.listeners.Listeners.queries_supplied.Goals as goal
 
 pub numbers_supplied-requires-clause-rising : goal.numbers_supplied-requires-clause-rising

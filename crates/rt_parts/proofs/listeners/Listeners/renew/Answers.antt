@@ -15,7 +15,7 @@ use Rattle.rt_parts.specs.Renewed.{all_told_of, count_of, renewed_of, view_of}
 use Rattle.rt_parts.specs.inside.HeldView.{AreHeld, counted_of, counts_of, listeners_of, pair_of, renewal_counted, renewed_pair, views_of}
 use Rattle.rt_parts.proofs.Counts.{all_counts, none_counts}
 use Rattle.rt_parts.proofs.IndexLaws.{have_due, index_read}
-use Rattle.rt_parts.proofs.RenewLaws.{all_listeners, all_views, no_items, none_noted, none_renewed, none_viewed, of, path_of_among, placed_same, same_counts, same_listeners, same_notes, same_views}
+use Rattle.rt_parts.proofs.RenewalLaws.{all_listeners, all_views, no_items, none_noted, none_renewed, none_viewed, of, path_of_among, placed_same, same_counts, same_listeners, same_notes, same_views}
 use Rattle.rt_parts.proofs.listeners.Listeners.renew.Goals as goal
 
 -- for no query nothing is done

@@ -1,11 +1,13 @@
-use Rattle.std.proofs.Common.{subst, sym, ◌∙◌}
-use Rattle.rt_parts.proofs.Rises.{rises_unseated}
-use Rattle.rt_parts.specs.inside.Rising.{IsTied}
+use Rattle.std.proofs.Common.{map, ap, ◌∙◌}
+use Rattle.rt_world.specs.steps.Closing.{unseated}
+use Rattle.rt_parts.proofs.RequestLaws.{tied_unseated, values_unseated}
 use Rattle.rt_parts.proofs.requests.Requests.close.Goals as goal
 
 pub invariant_of-self : goal.invariant_of-self
 invariant_of-self c =
-    subst (λ rs. IsTied rs c.self.inside.pending) (sym c.unseat_all.ensures) (record {
-      rise = rises_unseated c.args.seat c.self.inside.items.items c.self.invariant.rise;
-      written = c.self.invariant.written ∙ sym (c.pending_law.ensures.unseated c.self.inside.items.items c.args.seat);
-    })
+    tied_unseated c.args.seat c.self.inside.items.entries c.self.inside.pending c.self.invariant c.pending_law.ensures.unseated c.unseat_all.new.requests.entries c.unseat_all.ensures
+
+pub returns : goal.returns
+returns c =
+    values_unseated c.args.seat c.self.inside.items.entries c.self.inside.pending c.self.invariant c.unseat_all.new.requests.entries c.unseat_all.ensures
+    ∙ ap (map (unseated c.args.seat)) c.self.view_is

@@ -1,33 +1,42 @@
-use Rattle.std.proofs.Common.{◌≡◌, ◌==◌, Some, get_or, sym, ap, ◌∙◌, rules}
-use Rattle.std.specs.List.{position, fold, filter}
-use Rattle.std.proofs.lemmas.List.Quantifiers.{position-Some}
+use Rattle.std.proofs.Common.{◌≡◌, ◌==◌, Some, None, sym, ◌∙◌, subst}
+use Rattle.std.specs.List.{All, find, fold, filter}
 use Rattle.std.proofs.lemmas.Result.{IfOk-weaker, on_err_weaker}
-use Rattle.rt_writes.specs.Writes.{overlay, overlaid}
-use Rattle.rt_writes.specs.laws.Places.{none_found}
-use Rattle.rt_writes.proofs.NumberLaws.{no_write, one_write, touches_at, rising_pending}
+use Rattle.rt_writes.specs.Writes.{IsShallow, overlay, overlaid}
+use Rattle.rt_writes.specs.inside.ByNumber.{write_of, writes_of}
+use Rattle.rt_writes.proofs.NumberLaws.{no_write, one_write, touches_found, rising_pending}
+use Rattle.rt_writes.proofs.ByNumberLaws.{all_found, found_at, found_none}
 use Rattle.rt_writes.proofs.pending.Pending.overlaid.Goals as goal
 
-pub returns-in_default-clause-overlay : goal.returns-in_default-clause-overlay
-returns-in_default-clause-overlay c =
-    sym (no_write c.args.path.now c.args.tree c.args.self.now c.args.id (none_found (λ w. w.id == c.args.id) c.args.self.now (sym c.in_default.ensures)))
+pub overlaid-requires-clause-entries : goal.overlaid-requires-clause-entries
+overlaid-requires-clause-entries c =
+    all_found (λ w. All IsShallow w.entries) (writes_of c.self.inside.writes) c.args.id (write_of (c.args.id, c.in-Some.entries.now))
+    c.self.invariant.kept.shallow
+    (found_at c.self.inside.writes.entries c.args.id c.in-Some.entries.now c.in-Some.ensures.value)
 
-pub returns-clause-overlay : goal.returns-clause-overlay
-returns-clause-overlay c =
-    let at : position (λ w. w.id == c.args.id) c.args.self.now ≡ Some c.in-Some.place = search rules in
-    let is : get_or c.args.self.now c.in-Some.place c.index.result.now ≡ c.index.result.now = search rules in
+pub returns-in-Some-clause-overlay : goal.returns-in-Some-clause-overlay
+returns-in-Some-clause-overlay c =
+    let found : find (λ w. w.id == c.args.id) c.args.self.now ≡ Some (write_of (c.args.id, c.in-Some.entries.now)) =
+    subst (λ ws. find (λ w. w.id == c.args.id) ws ≡ Some (write_of (c.args.id, c.in-Some.entries.now))) c.self.view_is
+    (found_at c.self.inside.writes.entries c.args.id c.in-Some.entries.now c.in-Some.ensures.value) in
     IfOk-weaker c.overlaid.result
-    (λ after. after ≡ fold (overlaid c.args.path.now) c.args.tree c.index.result.now.entries)
+    (λ after. after ≡ fold (overlaid c.args.path.now) c.args.tree c.in-Some.entries.now)
     (λ after. after ≡ overlay c.args.path.now c.args.tree (filter (λ w. w.id == c.args.id) c.args.self.now))
-    (λ after e. e ∙ ap (λ w. fold (overlaid c.args.path.now) c.args.tree w.entries) (sym is)
-    ∙ sym (one_write c.args.path.now c.args.tree c.args.self.now c.args.id c.in-Some.place c.index.result.now
-    (rising_pending c.self.inside.writes.items c.args.self.now c.self.inside.merged c.self.invariant c.self.view_is) at))
+    (λ after e. e ∙ sym (one_write c.args.path.now c.args.tree c.args.self.now c.args.id (write_of (c.args.id, c.in-Some.entries.now))
+    (rising_pending (writes_of c.self.inside.writes) c.args.self.now c.self.inside.merged c.self.invariant c.self.view_is) found))
     c.overlaid.ensures.overlaid
 
-pub returns-clause-touched : goal.returns-clause-touched
-returns-clause-touched c =
-    let at : position (λ w. w.id == c.args.id) c.args.self.now ≡ Some c.in-Some.place = search rules in
-    let is : get_or c.args.self.now c.in-Some.place c.index.result.now ≡ c.index.result.now = search rules in
+pub returns-in-Some-clause-touched : goal.returns-in-Some-clause-touched
+returns-in-Some-clause-touched c =
+    let found : find (λ w. w.id == c.args.id) c.args.self.now ≡ Some (write_of (c.args.id, c.in-Some.entries.now)) =
+    subst (λ ws. find (λ w. w.id == c.args.id) ws ≡ Some (write_of (c.args.id, c.in-Some.entries.now))) c.self.view_is
+    (found_at c.self.inside.writes.entries c.args.id c.in-Some.entries.now c.in-Some.ensures.value) in
     on_err_weaker c.overlaid.result
-    (λ e. touches_at c.args.self.now c.args.path.now c.in-Some.place c.index.result.now
-    (position-Some (λ w. w.id == c.args.id) c.args.self.now c.in-Some.place c.index.result.now at).0 (rw is e))
+    (λ e. touches_found c.args.self.now c.args.path.now c.args.id (write_of (c.args.id, c.in-Some.entries.now)) found e)
     c.overlaid.ensures.touched
+
+pub returns-in-None-clause-overlay : goal.returns-in-None-clause-overlay
+returns-in-None-clause-overlay c =
+    let none : find (λ w. w.id == c.args.id) c.args.self.now ≡ None =
+    subst (λ ws. find (λ w. w.id == c.args.id) ws ≡ None) c.self.view_is
+    (found_none c.self.inside.writes.entries c.args.id c.in-None.ensures.value) in
+    sym (no_write c.args.path.now c.args.tree c.args.self.now c.args.id none)

@@ -1,8 +1,0 @@
-use Rattle.std.proofs.Common.{◌≡◌, ◌++◌, map, drop}
-use Rattle.rt_world.specs.Messages.{request_message}
-use Rattle.rt_sync.proofs.state.send_part.Given as goal
-
--- with the messages of what is left it is all
-abbrev pub invariant-loop-request : goal.invariant-loop-request
-invariant-loop-request l =
-    l.outgoing.items ++ map request_message (drop l.request-index l.requests) ≡ l.initial.outgoing.items ++ map request_message l.requests

@@ -1,6 +1,0 @@
-use Rattle.std.proofs.Common.{◌∙◌}
-use Rattle.rt_view.proofs.ReplayLaws.{remove_entry-without}
-use Rattle.rt_view.proofs.replay.drop_child.Goals as goal
-
-pub returns-clause-gone : goal.returns-clause-gone
-returns-clause-gone c = c.remove.ensures.entries ∙ remove_entry-without c.args.children.now.entries c.args.key.now c.requires
