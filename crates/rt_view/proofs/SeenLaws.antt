@@ -1,8 +1,8 @@
 -- What is kept by each key under which something else is shown: what was shown there first, and what is shown now.
 use Rattle.std.specs.Prelude.{T, IfSome}
-use Rattle.std.proofs.Common.{◌≡◌, Bool, true, false, cond, ◌||◌, List, [], ◌∷◌, refl, sym, ap, subst, ◌∙◌, ◌≤◌, Option, Some, None, is_some, ℕ, ◌+◌, ◌-◌, ◌<◌, suc, length, get_or, ◌++◌, map, append_assoc, append-nil, arith, ⊎_elim}
+use Rattle.std.proofs.Common.{◌≡◌, Bool, true, false, cond, not, ◌&&◌, ◌||◌, List, [], ◌∷◌, refl, sym, ap, subst, ◌∙◌, ◌≤◌, Option, Some, None, is_some, ℕ, ◌+◌, ◌-◌, ◌<◌, suc, length, get_or, ◌++◌, map, append_assoc, append-nil, arith, ⊎_elim}
 use Rattle.std.specs.Cmp.Lexicographic.{nat_list_cmp_total}
-use Rattle.std.specs.List.{All, AllByRecursion, fold}
+use Rattle.std.specs.List.{All, AllByRecursion, filter, fold}
 use Rattle.std.specs.Map.{values_of}
 use Rattle.std.specs.Option.{option_map_or}
 use Rattle.std.specs.Ordering.{is_eq, is_lt, ordering_reverse}
@@ -10,7 +10,7 @@ use Rattle.std.specs.declared.cmp.Ordering.{Ordering}
 use Rattle.std.specs.declared.cmp.Ordering.TheVariants.{Less, Equal, Greater}
 use Rattle.std.proofs.lemmas.List.Elements.{All-cons, All-nil, All-weaker}
 use Rattle.std.specs.FinMap as map_of
-use Rattle.std.specs.FinMap.Entries.{find, is_sorted, below_all, is_sorted-put, find-put, by_order}
+use Rattle.std.specs.FinMap.Entries.{find, is_sorted, below_all, is_sorted-put, find-put, by_order, same_entries}
 use Rattle.rt_tree.specs.Allowed.{IsAllowed}
 use Rattle.rt_tree.specs.PathTree.{Key, PathTree, first, second, key_cmp, key_eq, key_eq-is, key_eq-same, key_eq-symm, is_null, levels, child_of, non_null, put}
 use Rattle.rt_tree.specs.Children.{children_of}
@@ -26,8 +26,9 @@ use Rattle.rt_view.specs.inside.Telling.{AllSeen, AreSeen, IsFit, IsKeptBy, IsNe
 use Rattle.rt_view.proofs.CrossLaws.{shown_known}
 use Rattle.rt_view.proofs.Listed.{value_at-children}
 use Rattle.rt_view.proofs.TouchLaws.{child_fits, child_of-put}
-use Rattle.std.specs.Cmp.{IsTotalOrder}
-use Rattle.std.specs.List.Sorted.{IsStrictlySortedBy}
+use Rattle.std.specs.Cmp.{IsStrictWeakOrder, IsTotalOrder}
+use Rattle.std.specs.List.Sorted.{IsStableBy, IsStrictlySortedBy}
+use Rattle.std.proofs.lemmas.List.MinMax.{ranks_by}
 use Rattle.std.proofs.lemmas.Bool.{cases_lt}
 use Rattle.rt_order.specs.Entries.{Entry, entry_cmp}
 use Rattle.rt_order.specs.laws.EntryOrder.{entry_cmp_total}
@@ -302,3 +303,64 @@ all_fit q t u w seen allowed kept h = All-weaker (IsSeen t (entries_shown q u)) 
     fit : (k : Key) (o : Option PathTree) → o ≡ value_at (entries_shown q u) k → IfSome o (λ x. (is_null x ≡ false) × (levels x ≤ 32))
     fit k None e = tt
     fit k (Some v) e = child_fits u k v allowed (shown_known q u w k v kept (ap (λ (es : Entries). value_at es k) (sym kept.cut.cut) ∙ sym e)).0
+
+-- ---- what is noted in another order
+
+-- what is kept by a key, with one note more
+abbrev joined : Seen → Option Seen → Seen
+joined s o = record { key = s.key; old = option_map_or (λ (x : Seen). x.old) o s.old; new = s.new }
+
+abbrev kept_at : Key → List Seen → Option Seen → Option Seen
+kept_at k [] o = o
+kept_at k (s ∷ ss) o = kept_at k ss (cond (key_eq k s.key) (Some (joined s o)) o)
+
+kept_more : (k : Key) (s : Seen) (es : List (Key × Seen)) → find key_cmp k (seen_too s.key s.old s.new es) ≡ cond (key_eq k s.key) (Some (joined s (find key_cmp k es))) (find key_cmp k es)
+kept_more k s es =
+    find-put key_cmp nat_list_cmp_total k s.key (joined s (find key_cmp s.key es)) es
+    ∙ elim (key_eq k s.key) as (λ b. key_eq k s.key ≡ b → cond b (Some (joined s (find key_cmp s.key es))) (find key_cmp k es) ≡ cond b (Some (joined s (find key_cmp k es))) (find key_cmp k es)) [
+      | true ↦ λ e. ap (λ (j : Key). Some (joined s (find key_cmp j es))) (sym (key_eq-is k s.key e))
+      | false ↦ λ e. refl
+    ] refl
+
+find_kept : (k : Key) (ss : List Seen) (es : List (Key × Seen)) → find key_cmp k (fold (λ fs (s : Seen). seen_too s.key s.old s.new fs) es ss) ≡ kept_at k ss (find key_cmp k es)
+find_kept k [] es = refl
+find_kept k (s ∷ ss) es = find_kept k ss (seen_too s.key s.old s.new es) ∙ ap (kept_at k ss) (kept_more k s es)
+
+-- what is noted under other keys doesn't matter
+kept_filter : (k : Key) (ss : List Seen) (o : Option Seen) → kept_at k (filter (λ (s : Seen). key_eq k s.key) ss) o ≡ kept_at k ss o
+kept_filter k [] o = refl
+kept_filter k (s ∷ ss) o =
+    let rest = filter (λ (t : Seen). key_eq k t.key) ss in
+    elim (key_eq k s.key) as (λ b. key_eq k s.key ≡ b → kept_at k (cond b (s ∷ rest) rest) o ≡ kept_at k ss (cond b (Some (joined s o)) o)) [
+      | true ↦ λ e. ap (λ b. kept_at k rest (cond b (Some (joined s o)) o)) e ∙ kept_filter k ss (Some (joined s o))
+      | false ↦ λ e. kept_filter k ss o
+    ] refl
+
+kept_sorted : (ss : List Seen) (es : List (Key × Seen)) → T (is_sorted key_cmp es) → T (is_sorted key_cmp (fold (λ fs (s : Seen). seen_too s.key s.old s.new fs) es ss))
+kept_sorted [] es h = h
+kept_sorted (s ∷ ss) es h = kept_sorted ss (seen_too s.key s.old s.new es) (is_sorted-put key_cmp nat_list_cmp_total s.key (joined s (find key_cmp s.key es)) es h)
+
+abbrev pub by_key : Seen → Seen → Bool
+by_key a b = is_lt (key_cmp a.key b.key)
+
+pub key_ranks : IsStrictWeakOrder by_key
+key_ranks = ranks_by nat_list_cmp_total (λ (s : Seen). s.key)
+
+tied_keys : (j k : Key) → (not (is_lt (key_cmp j k)) && not (is_lt (key_cmp k j))) ≡ key_eq j k
+tied_keys j k = ap (λ o. not (is_lt (key_cmp j k)) && not (is_lt o)) (nat_list_cmp_total.antisymm k j) ∙ either_way (key_cmp j k)
+  where
+    either_way : (o : Ordering) → (not (is_lt o) && not (is_lt (ordering_reverse o))) ≡ is_eq o
+    either_way Less = refl
+    either_way Equal = refl
+    either_way Greater = refl
+
+-- the same is kept where what is noted under each key stands in the same order
+pub kept_stable : (ss ts : List Seen) → IsStableBy by_key ss ts → kept_by ts ≡ kept_by ss
+kept_stable ss ts h =
+    same_entries key_cmp nat_list_cmp_total (λ j k e. key_eq-is j k (ap is_eq e)) (kept_by ts) (kept_by ss) (kept_sorted ts [] tt) (kept_sorted ss [] tt)
+    (λ k. find_kept k ts [] ∙ sym (kept_filter k ts None) ∙ ap (λ (us : List Seen). kept_at k us None) (same k) ∙ kept_filter k ss None ∙ sym (find_kept k ss []))
+  where
+    same : (k : Key) → filter (λ (s : Seen). key_eq k s.key) ts ≡ filter (λ (s : Seen). key_eq k s.key) ss
+    same k =
+        let one : Seen = record { key = k; old = None; new = None } in
+        (λ i. filter (λ (s : Seen). sym (tied_keys k s.key) i) ts) ∙ h one ∙ (λ i. filter (λ (s : Seen). tied_keys k s.key i) ss)

@@ -226,10 +226,24 @@ fn list_seen(alloc: Global, mut seen: BTreeMap<Key, Seen>) -> Result<Vec<Seen>, 
     Ok(list)
 }
 
-// What is noted, each key once, in their order. Where the keys rise already, it is this very list.
+// Sorts what is noted by the keys. What is noted under one key keeps its order.
+fn sort_notes(noted: &mut Vec<Seen>) -> Result<(), AllocError>
+    ensures { OnOk result (kept_by noted.new.items ≡ kept_by noted.old.items) }
+{
+    noted.sort_by(|one, other| one.key.cmp(&other.key))?;
+    Ok(())
+}
+
+// What is noted, each key once, in their order. It is this very list, which is sorted where the keys
+// don't rise already, unless a key is noted twice.
 pub fn in_key_order(alloc: Global, noted: Vec<Seen>) -> Result<Vec<Seen>, AllocError>
     ensures { IfOk result (λ list. list.items ≡ values_of (kept_by noted.items)) }
 {
+    let mut noted = noted;
+    if have_rising_keys(noted.as_slice()) {
+        return Ok(noted);
+    }
+    sort_notes(&mut noted)?;
     if have_rising_keys(noted.as_slice()) {
         return Ok(noted);
     }
