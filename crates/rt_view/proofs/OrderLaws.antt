@@ -1,5 +1,5 @@
 -- Children that stand in the order of their query, since none has an integer key.
-use Rattle.std.proofs.Common.{◌≡◌, Bool, true, false, cond, not, List, [], ◌∷◌, map, refl, sym, ap, subst, ◌∙◌, Option, Some, None}
+use Rattle.std.proofs.Common.{◌≡◌, Bool, true, false, cond, not, List, [], ◌∷◌, ◌++◌, map, refl, sym, ap, subst, ◌∙◌, Option, Some, None}
 use Rattle.std.specs.declared.cmp.Ordering.{Ordering}
 use Rattle.std.specs.declared.cmp.Ordering.TheVariants.{Less, Equal, Greater}
 use Rattle.std.specs.FinMap as map_of
@@ -17,7 +17,10 @@ use Rattle.rt_order.specs.Entries.{Entry, entry, entry_cmp, sort_value}
 use Rattle.rt_order.specs.KeyOrder.{integer_of, key_cmp_by}
 use Rattle.rt_order.specs.Values.{Null}
 use Rattle.rt_query.specs.Queries.{Query}
-use Rattle.rt_query.specs.Select.{sorted_by}
+use Rattle.rt_query.specs.Select.{row_of, rows_of, select, sorted_by}
+use Rattle.rt_query.specs.laws.Select.{select-whole}
+use Rattle.rt_view.specs.declared.change.Change.TheVariants.{Added, Value}
+use Rattle.rt_view.specs.Changes.{changes, is_added, placed_changes}
 use Rattle.rt_view.specs.declared.seen.Seen.{Seen}
 use Rattle.rt_view.specs.inside.Ranged.{OrderedChildren}
 use Rattle.rt_view.specs.Views.{with_named}
@@ -30,6 +33,7 @@ use Rattle.rt_view.proofs.Listed.{value_at-children}
 use Rattle.rt_view.proofs.SeenLaws.{are_seen}
 use Rattle.rt_view.proofs.TouchLaws.{child_of-put}
 use Rattle.rt_view.proofs.TreeLaws.{plain_rows}
+use Rattle.rt_view.proofs.TurnLaws.{first_rows}
 
 -- ---- words
 
@@ -98,6 +102,12 @@ ordered_shown q t h =
 pub shown_ordered : (q : Query) (t : PathTree) (w : Option OrderedChildren) → IsInOrder q t w → ordered_in t w ≡ entries_shown q t
 shown_ordered q t None h = ordered_shown q t h
 shown_ordered q t (Some w) h = sym h.cut.cut
+
+-- the changes from no view, where the rows are read off the tree
+pub first_told : (q : Query) (t : PathTree) → IsOrdered q t → placed_changes is_added Added [] (map row_of (ordered_in t None)) ++ Value t ∷ [] ≡ changes q.index None (select q t)
+first_told q t h =
+    ap (λ (es : Entries). placed_changes is_added Added [] (map row_of es) ++ Value t ∷ []) (shown_ordered q t None h)
+    ∙ (λ i. sym (first_rows q.index (rows_of q (children_of t))) i ++ Value (sym (select-whole q t h.plain) i) ∷ [])
 
 -- ---- the child before
 

@@ -7,14 +7,15 @@ ghost use Rattle.std.specs.Map.{keys_of};
 ghost use Rattle.std.specs.Option.{option_copied, option_eq, option_map_or};
 ghost use Rattle.rt_tree.specs.PathTree.{child_of, key_cmp, PathTree, leaf_of, is_null, non_null, put};
 ghost use Rattle.rt_query.specs.Rows.{HasDistinctKeys, row_at};
-ghost use Rattle.rt_view.specs.declared.change.Change.TheVariants.{Removed};
-ghost use Rattle.rt_view.specs.Changes.{Turns, changes, placed_changes, removals, row_changes, rows_in};
+ghost use Rattle.rt_view.specs.declared.change.Change.TheVariants.{Added, Removed};
+ghost use Rattle.rt_view.specs.Changes.{Turns, changes, is_added, placed_changes, removals, row_changes};
+ghost use Rattle.rt_view.specs.Changes.{rows_in};
 ghost use Rattle.rt_view.specs.inside.Given.{change_of, is_given, is_same, row_with, told_alone};
 ghost use Rattle.rt_view.specs.inside.Given.{told_there};
 ghost use Rattle.rt_tree.specs.Children.{children_of};
 ghost use Rattle.rt_tree.specs.TreeEq.{leaf_eq};
 ghost use Rattle.rt_query.specs.Queries.{is_filtered};
-ghost use Rattle.rt_query.specs.Select.{select, tree_of};
+ghost use Rattle.rt_query.specs.Select.{row_of, select, tree_of};
 ghost use Rattle.rt_view.specs.inside.Windows.{Entries, before};
 ghost use Rattle.rt_view.specs.inside.ViewIndex.{IsInOrder, IsWindowOf, SetsChild, SetsNoted, changes_to};
 ghost use Rattle.rt_view.specs.inside.ViewIndex.{entries_shown, removed_of, shown_by, CanAsk, ComesToWord};
@@ -23,7 +24,7 @@ ghost use Rattle.rt_view.specs.inside.Telling.{AreSeen, IsFit, IsNew, IsSeen, gi
 ghost use Rattle.rt_order.specs.Entries.{entry};
 
 use crate::change::{
-    Change, ChangeList, Kind, RowChanges, push_gone, push_other, push_row, stays, with_whole,
+    Change, ChangeList, Kind, RowChanges, push, push_gone, push_other, push_row, stays, with_whole,
 };
 use crate::position::{Position, before_in, drop_child, put_child};
 use crate::seen::{Seen, Told, find_all_told};
@@ -272,6 +273,35 @@ pub fn changes(
     let rows = rows_between(alloc, index, old, new)?;
     let same = is_same(rows.as_slice(), old, new);
     with_whole(alloc, rows, same, new.tree())
+}
+
+// What is told of the children of a tree, in the order of their keys, where there was no view: each is
+// added behind the one before it.
+fn added_all(alloc: Global, known: &Tree) -> Result<Vec<Change>, AllocError>
+    ensures { IfOk result (λ changes. changes.items
+        ≡ placed_changes is_added Added [] (map row_of (ordered_in known.now None))) }
+{
+    let Some(children) = known.children() else {
+        return Ok(Vec::new(alloc));
+    };
+    let mut changes = Vec::with_capacity(alloc, children.len())?;
+    let mut before = None;
+    for (key, tree) in children {
+        push(&mut changes, alloc, Kind::Added, key, tree, before)?;
+        before = Some(key);
+    }
+    Ok(changes)
+}
+
+// The changes from no view to a tree in the query's order, whose rows stand in the tree.
+pub fn tell_first(alloc: Global, query: &Query, known: &Tree) -> Result<ChangeList, AllocError>
+    requires { IsOrdered query.now known.now }
+    ensures { IfOk result (λ list. list ≡ changes query.now.index None (select query.now known.now)) }
+{
+    // For the prover: whose rows these are.
+    let _ = query;
+    let rows = added_all(alloc, known)?;
+    with_whole(alloc, rows, false, known)
 }
 
 // The children that are shown no more.

@@ -15,7 +15,7 @@ ghost use Rattle.std.specs.List.{list_any};
 ghost use Rattle.std.specs.Map.{keys_of};
 
 use crate::change::ChangeList;
-use crate::difference::changes;
+use crate::difference::{changes, tell_first};
 use crate::position::{copy_leaf, count, is_ordered, name_words, object_of, rows_of, window_of};
 use crate::touch::{few_differing, touch_filtered, touch_ordered, touch_plain};
 use crate::window::OrderedChildren;
@@ -132,8 +132,8 @@ impl View {
         ensures view { IfOk result (λ p. p.0 ≡ first_view query known) }
         ensures changes { IfOk result (λ p. p.1 ≡ changes query.index None (select query known)) }
     {
-        let (kept, shown) = kept_anew(alloc, &query, &known)?;
-        let changes = changes(alloc, query.index(), None, &shown)?;
+        let kept = kept_of(alloc, &query, &known)?;
+        let changes = first_changes(alloc, &query, &known, &kept)?;
         let reads = count(&known);
         let view = View {
             query,
@@ -312,18 +312,23 @@ pub fn shown_of(query: &Query, known: &Tree, kept: &ViewIndex) -> Result<Shown, 
     Ok(Shown::of(leaf, rows, whole))
 }
 
-// What is kept of a tree, and what is shown of it.
-pub fn kept_anew(
+// The changes from no view to the first one.
+fn first_changes(
     alloc: Global,
     query: &Query,
     known: &Tree,
-) -> Result<(ViewIndex, Shown), AllocError>
-    ensures kept { IfOk result (λ p. IsKept query.now known.now p.0) }
-    ensures shown { IfOk result (λ p. p.1 ≡ select query.now known.now) }
+    kept: &ViewIndex,
+) -> Result<ChangeList, AllocError>
+    requires { IsKept query.now known.now kept.now }
+    ensures { IfOk result (λ list. list ≡ changes query.now.index None (select query.now known.now)) }
 {
-    let kept = kept_of(alloc, query, known)?;
-    let shown = shown_of(query, known, &kept)?;
-    Ok((kept, shown))
+    match kept {
+        ViewIndex::Ordered => tell_first(alloc, query, known),
+        ViewIndex::Plain(_) | ViewIndex::Filtered(_, _) => {
+            let shown = shown_of(query, known, kept)?;
+            changes(alloc, query.index(), None, &shown)
+        }
+    }
 }
 
 // Keeps the children in order, where they stood so in the tree and a named one comes to an integer key.
@@ -390,7 +395,8 @@ fn make_anew(
         (Some (select query.now known.now)) (select query.now new.now)) }
 {
     let old = shown_of(query, known, kept)?;
-    let (made, shown) = kept_anew(alloc, query, new)?;
+    let made = kept_of(alloc, query, new)?;
+    let shown = shown_of(query, new, &made)?;
     let changes = changes(alloc, query.index(), Some(&old), &shown)?;
     drop(replace(kept, made));
     Ok(changes)
