@@ -6,7 +6,7 @@ use Rattle.std.specs.declared.result.Result.{Result}
 use Rattle.std.specs.declared.result.Result.TheVariants.{Err, Ok}
 use Rattle.std.proofs.lemmas.List.Elements.{All-append, All-cons, All-filter, All-nil}
 use Rattle.rt_tree.specs.Allowed.{IsAllowed}
-use Rattle.rt_tree.specs.PathTree.{Key, PathTree, key_eq, key_eq-is, key_eq-same, key_eq-symm, child, child_of, is_null, is_null-null, leaf_of, levels, levels-null, non_null, null, object, put}
+use Rattle.rt_tree.specs.PathTree.{Key, PathTree, key_eq, key_eq-is, key_eq-same, key_eq-symm, child, child_of, is_null, is_null-null, leaf_alone, leaf_at-sub, leaf_of, levels, levels-null, non_null, null, null_of_no_leaf, object, put}
 use Rattle.rt_tree.specs.Children.{children_of, children_sorted, child_of-children_of, is_object}
 use Rattle.rt_tree.specs.Leaf.{LeafValue}
 use Rattle.rt_tree.specs.TreeEq.{tree_eq_tells}
@@ -110,6 +110,11 @@ come_none old (c ∷ cs) k o h =
           ]
     ] refl h
 
+-- what stays stood there
+pub stood : (before : Option PathTree) (t : PathTree) → stays before t ≡ true → before ≡ Some t
+stood None t e = cc
+stood (Some b) t e = ap Some ((tree_eq_tells b t).0 e)
+
 come_some : (old new : Children) (k : Key) (v : PathTree) (o : Option PathTree) → EachOnce new → is_null v ≡ false → child_of new k ≡ Some v → o ≡ child_of old k → named_at (come old new) k o ≡ Some v
 come_some old [] k v o once some there is = cc
 come_some old (c ∷ cs) k v o once some there is =
@@ -128,10 +133,6 @@ come_some old (c ∷ cs) k v o once some there is =
             | false ↦ ap (λ b. named_at (come old cs) k (cond b (non_null c.1) o)) (key_eq-symm c.0 k ∙ s) ∙ come_some old cs k v o once.1 some g is
           ]
     ] refl there
-  where
-    stood : (before : Option PathTree) (t : PathTree) → stays before t ≡ true → before ≡ Some t
-    stood None t e = cc
-    stood (Some b) t e = ap Some ((tree_eq_tells b t).0 e)
 
 -- ---- both
 
@@ -167,6 +168,30 @@ child_full t k v e = at (is_null (child t k)) refl (sym (child_of-children_of t 
     at false s g =
         let same : child t k ≡ v = cc in
         subst (λ x. is_null x ≡ false) same s
+
+-- a tree stays as it is where a child is put that stands there
+pub put_there : (t : PathTree) (k : Key) (v : PathTree) → child_of (children_of t) k ≡ Some v → put t (k ∷ []) v ≡ t
+put_there t k v there =
+    sym (object-parts made (children_of t) (leaf_of-put t k v root) (λ j. sym (child_of-put t k j v ∙ at j) ∙ child_of-children_of made j))
+    ∙ object-parts t (children_of t) root (child_of-children_of t)
+  where
+    made : PathTree
+    made = put t (k ∷ []) v
+
+    root : leaf_of t ≡ None
+    root = elim (leaf_of t) as (λ o. leaf_of t ≡ o → o ≡ None) [
+      | None ↦ λ e. refl
+      | Some l ↦ λ e.
+          let gone : child t k ≡ null = null_of_no_leaf (child t k) (λ q. leaf_at-sub t (k ∷ []) q ∙ leaf_alone t [] l k q e) in
+          let none : child_of (children_of t) k ≡ None = child_of-children_of t k ∙ ap non_null gone ∙ no_null in
+          cc (none, there)
+    ] refl
+
+    at : (j : Key) → cond (key_eq k j) (non_null v) (child_of (children_of t) j) ≡ child_of (children_of t) j
+    at j = elim (key_eq k j) as (λ b. key_eq k j ≡ b → cond b (non_null v) (child_of (children_of t) j) ≡ child_of (children_of t) j) [
+      | true ↦ λ e. ap (λ b. cond b None (Some v)) (child_full t k v there) ∙ sym there ∙ ap (child_of (children_of t)) (key_eq-is k j e)
+      | false ↦ λ e. refl
+    ] refl
 
 turned_at : (old new : PathTree) (k : Key) → named_at (differing (children_of old) (children_of new)) k (child_of (children_of old) k) ≡ child_of (children_of new) k
 turned_at old new k =

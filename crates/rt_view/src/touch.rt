@@ -101,7 +101,8 @@ fn bring_in(
 }
 
 // Puts a child in the place of the one at its key, in the known tree and in its window. What stood at the
-// key is found once; what is shown otherwise since, there and for the cut that moves, is noted.
+// key is found once; what is shown otherwise since, there and for the cut that moves, is noted. Where an
+// equal child stood there, nothing is.
 fn touch_child(
     known: &mut Tree,
     window: &mut OrderedChildren,
@@ -120,9 +121,13 @@ fn touch_child(
         → KeepsSeen first (value_at (shown_in window.new)) (kept_by noted.new.items)) }
 {
     let old = put_child(known, alloc, key, child)?;
-    let left = take_out(window, alloc, query, key, old.as_ref(), child)?;
+    let was = old.as_ref();
+    if stays(was, child) {
+        return Ok(());
+    }
+    let left = take_out(window, alloc, query, key, was, child)?;
     let came = bring_in(window, alloc, query, key, child)?;
-    note_turned(noted, alloc, key, old.as_ref(), child, &left, &came)
+    note_turned(noted, alloc, key, was, child, &left, &came)
 }
 
 // Puts the named children in their places. What was and what is shown is noted under the keys where
@@ -141,7 +146,7 @@ fn touch_all(
     ensures seen { IfOk result (λ seen.
         AllSeen (shown_in window.old) (shown_in window.new) seen.items) }
 {
-    let mut noted = Vec::with_capacity(alloc, named.len())?;
+    let mut noted = Vec::new(alloc);
     for (key, child) in named {
         touch_child(known, window, &mut noted, alloc, query, key, child)?;
     }
@@ -225,7 +230,7 @@ fn touch_alone(
 }
 
 // Puts a child in the place of the one at its key, in a tree in the query's order. What stood there and
-// what stands there now is noted.
+// what stands there now is noted, where the two differ.
 fn touch_there(
     known: &mut Tree,
     noted: &mut Vec<Seen>,
@@ -240,7 +245,11 @@ fn touch_there(
         → KeepsSeen first (stands_in known.new) (kept_by noted.new.items)) }
 {
     let old = put_child(known, alloc, key, child)?;
-    note_stands(noted, alloc, key, old.as_ref(), child)
+    let was = old.as_ref();
+    if stays(was, child) {
+        return Ok(());
+    }
+    note_stands(noted, alloc, key, was, child)
 }
 
 // Puts the named children in their places, in a tree in the query's order. What stood and what stands
@@ -255,7 +264,7 @@ fn touch_each(
     ensures seen { IfOk result (λ seen.
         AllSeen (rows_in_tree Index.Key known.old) (rows_in_tree Index.Key known.new) seen.items) }
 {
-    let mut noted = Vec::with_capacity(alloc, named.len())?;
+    let mut noted = Vec::new(alloc);
     for (key, child) in named {
         touch_there(known, &mut noted, alloc, key, child)?;
     }
