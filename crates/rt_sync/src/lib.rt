@@ -65,6 +65,13 @@ impl Model for Core {
     ghost invariant = { λ a. IfSome a.state HoldsWell };
 }
 
+// Drops the state of a core that fails. It is a function of its own: its locals have room for a state.
+fn fail(state: &mut Option<State>)
+    ensures { state.new ≡ None }
+{
+    *state = None;
+}
+
 impl Core {
     /// A core with no listener, no request and no connection. A limit of 0 counts as 1, and one
     /// above what a core takes as that.
@@ -111,7 +118,7 @@ impl Core {
         if let Ok(answer) = state.after(step) {
             return answer;
         }
-        self.state = None;
+        fail(&mut self.state);
         Err(CoreError::NoMemory)
     }
 
