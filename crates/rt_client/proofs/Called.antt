@@ -1,12 +1,11 @@
 -- A seat's call: its receipt, its lane and its ring.
 use Rattle.std.proofs.Common.{◌≡◌, ℕ, Bool, true, false, cond, ◌==◌, List, [], ◌∷◌, ◌++◌, length, take, refl, sym, ap, subst, ◌∙◌, append-nil, inl, inr, Option, Some, None, Ok, Err, Result, IfErr, unwrap_or, IsTrue}
 use mathlib.Core.Bool.{true≢false}
-use Rattle.std.specs.Option.{option_map, option_map_or, option_or}
+use Rattle.std.specs.Option.{option_map, option_map_or}
 use Rattle.rt_world.specs.declared.error.CoreError.{CoreError}
 use Rattle.rt_world.specs.declared.report.Report.{Report}
 use Rattle.rt_world.specs.declared.step.Step.{Step}
 use Rattle.rt_world.specs.World.{World}
-use Rattle.rt_world.specs.After.{listener_given, request_given}
 use Rattle.rt_world.specs.Refusals.{refusal, is_stale}
 use Rattle.rt_world.specs.Answers.{step_by, step, done_report}
 use Rattle.rt_sync.specs.Core.{Applies, refusal_in}
@@ -20,21 +19,17 @@ use Rattle.rt_client.specs.declared.shared.Done.{Done}
 use Rattle.rt_client.specs.declared.error.ClientError.{ClientError}
 use Rattle.rt_client.specs.declared.error.ClientError.TheVariants as error
 use Rattle.rt_client.specs.declared.error.ClientError.TheVariants.{NoMemory}
-use Rattle.rt_client.specs.Seats.{told_to, receipt_of, does_close}
+use Rattle.rt_client.specs.Seats.{told_to, receipt_with, given_by, receipt_of, does_close}
 use Rattle.rt_client.specs.Lanes.{lane_of, with_told, HasRoom, signed_ring}
 use Rattle.rt_client.specs.Shared.{Held, signed_by, lane_after}
 use Rattle.rt_world.specs.Calls.{step_of}
 use Rattle.rt_client.specs.Calls.{LacksMemory, HandsFirst, HandsSome, Called, RefusesCalled}
 use Rattle.rt_client.specs.Calls.{Refuses as RefusesStep}
-use Rattle.rt_client.specs.inside.Receipts.{receipt_with, gives_number, AreSigned}
+use Rattle.rt_client.specs.inside.Receipts.{gives_number, AreSigned}
 use Rattle.rt_client.proofs.Slots.{Lines, at_seat}
 use Rattle.rt_client.proofs.Steps.{done_is_due}
 
 -- ---- receipts
-
--- the number that a call's step gives
-abbrev pub given_by : World → Step → Option ℕ
-given_by w s = option_or (listener_given w s) (request_given w s)
 
 pub receipt_is : (w : World) (seat : ℕ) (c : Call) → receipt_of w (step_of seat c) ≡ Some (seat, receipt_with (unwrap_or (given_by w (step_of seat c)) 0) c)
 receipt_is w seat (call.Listen query) = refl
@@ -73,6 +68,16 @@ number_given old new seat had left c done makes called none =
     let s = step_of seat c in
     let given = given_is (refusal m.world s) (is_stale m.world s) m.world s m.report (not_stale m.world seat c) m.answer in
     is_given m.world seat c makes (sym given ∙ sym (ap (λ (d : Done). d.given) m.told) ∙ none)
+
+-- the receipt that a call is answered with has the number that it is given
+pub answered_with : (old new : Held) (seat : ℕ) (had left : Ring) (c : Call) (done : Done) → (called : Called old seat had c done new left)
+    → called.receipt ≡ receipt_with (unwrap_or done.given 0) c
+answered_with old new seat had left c done called =
+    let m = called.made in
+    let s = step_of seat c in
+    let given = given_is (refusal m.world s) (is_stale m.world s) m.world s m.report (not_stale m.world seat c) m.answer in
+    ap (λ o. option_map_or (λ (r : ℕ × Receipt). r.1) o called.receipt) (sym called.signed ∙ receipt_is m.world seat c)
+    ∙ ap (λ g. receipt_with (unwrap_or g 0) c) (sym given ∙ sym (ap (λ (d : Done). d.given) m.told))
 
 -- a core that answers with a report has made the world's step
 pub done_core : (old new : Option World) (w : World) (s : Step) (report : Report) → old ≡ Some w → Applies old s (Ok report) new

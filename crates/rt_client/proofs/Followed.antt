@@ -18,6 +18,7 @@ use Rattle.rt_world.specs.Calls.{step_of}
 use Rattle.rt_client.specs.Calls.{Locked, Seated, IsOpen}
 use Rattle.rt_client.specs.Delivery.{IsMirrored}
 use Rattle.rt_client.specs.laws.Following.{FollowsSettling, FollowsCalls, KnowsAll}
+use Rattle.rt_client.proofs.Called.{stays_open}
 use Rattle.rt_client.proofs.Seated.{own_is}
 
 -- ---- an open seat's lane
@@ -79,12 +80,6 @@ follows_settling old new seat mid left had has count k h m =
     }
 
 -- ---- a seat's call
-
-pub stays_open : (n seat : ℕ) (c : Call) → does_close n (step_of seat c) ≡ false
-stays_open n seat (call.Listen query) = refl
-stays_open n seat (call.Unlisten listener) = refl
-stays_open n seat (call.Write action) = refl
-stays_open n seat (call.OnDisconnect ending) = refl
 
 -- the lane after it
 pub lane_called : (w : World) (seat : ℕ) (c : Call) (r : Receipt) (report : Report) (lane : Line) → receipt_of w (step_of seat c) ≡ Some (seat, r)

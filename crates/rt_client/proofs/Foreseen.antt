@@ -36,7 +36,8 @@ use Rattle.rt_client.specs.Calls.{Locked, Seated, Made}
 use Rattle.rt_client.specs.Opened.{new_locked}
 use Rattle.rt_client.specs.laws.Showing.{seen_by, seen_in, StepShows, Foresees, ForeseesAtFirst, ForeseesWhatIsOpened, ForeseesWhatSettles, ForeseesWhatIsCalled, ForeseesSteps, ForeseesAnothersCall, ForeseesAnothersSettling, ForeseesAnothersEnd, ForeseesMessages, ForeseesOpenings, ForeseesWhatStays, ShowsAll}
 use Rattle.rt_client.proofs.Entries.{is_at-number}
-use Rattle.rt_client.proofs.Followed.{opened, same_lane, here, stays_open, lane_called}
+use Rattle.rt_client.proofs.Called.{stays_open}
+use Rattle.rt_client.proofs.Followed.{opened, same_lane, here, lane_called}
 use Rattle.rt_client.proofs.Kept.{take_drop}
 use Rattle.rt_client.proofs.Mirrored.{sound_by}
 use Rattle.rt_client.proofs.Numbers.{other_number}

@@ -1,4 +1,5 @@
 pub mod Allowed
+pub mod Answered
 pub mod Awaited
 pub mod Batches
 pub mod Called

@@ -1,5 +1,5 @@
 -- A mirror that takes just what is put into a ring follows the one that a lane has.
-use Rattle.std.proofs.Common.{◌≡◌, ℕ, Bool, true, false, cond, ◌==◌, List, [], ◌∷◌, ◌++◌, take, drop, refl, sym, ap, subst, ◌∙◌, Option, Some, None, Ok}
+use Rattle.std.proofs.Common.{◌≡◌, ℕ, Bool, true, false, cond, ◌==◌, List, [], ◌∷◌, ◌++◌, take, drop, refl, sym, ap, subst, ◌∙◌, Option, Some, None, Ok, unwrap_or}
 use Rattle.std.specs.Option.{option_map, option_map_or}
 use Rattle.std.proofs.lemmas.List.Sums.{fold-append}
 use Rattle.rt_world.specs.declared.step.Step.{Step}
@@ -7,14 +7,17 @@ use Rattle.rt_world.specs.declared.report.Report.{Report}
 use Rattle.rt_world.specs.World.{World}
 use Rattle.rt_world.specs.Calls.{step_of}
 use Rattle.rt_mail.specs.declared.item.Item.TheVariants as item
+use Rattle.rt_mail.specs.declared.item.Receipt.{Receipt}
 use Rattle.rt_mail.specs.Mailbox.{taken, known_of}
 use Rattle.rt_mail.specs.Lanes.{Line, signed_lane}
-use Rattle.rt_client.specs.Seats.{receipt_of, told_to, caller_of, does_close}
+use Rattle.rt_world.specs.declared.step.Call.{Call}
+use Rattle.rt_client.specs.Seats.{call_of, receipt_with, given_by, receipt_of, told_to, caller_of, does_close}
 use Rattle.rt_client.specs.Lanes.{lane_of, due, settled, with_told}
 use Rattle.rt_client.specs.Shared.{Held, lane_after, signed_by}
 use Rattle.rt_client.specs.Calls.{Locked, Seated, IsOpen}
 use Rattle.rt_client.specs.laws.Following.{FollowsWhatSettles, FollowsWhatIsCalled, FollowsTheConnection, FollowsAnothersCall, FollowsAnothersSettling}
-use Rattle.rt_client.proofs.Followed.{opened, same_lane, here, stays_open, lane_called}
+use Rattle.rt_client.proofs.Called.{stays_open}
+use Rattle.rt_client.proofs.Followed.{opened, same_lane, here, lane_called}
 use Rattle.rt_client.proofs.Numbers.{other_number}
 
 -- what stands behind the same is the same
@@ -94,20 +97,13 @@ open_again old new held after seat lane left o same is now =
           ∙ now;
     }
 
+-- a step that is no seat's call has no receipt
 pub no_receipt : (w : World) (s : Step) → caller_of s ≡ None → receipt_of w s ≡ None
-no_receipt w (Step.Listen seat query) e = absurd (cc)
-no_receipt w (Step.Unlisten seat listener) e = absurd (cc)
-no_receipt w (Step.Write seat action) e = absurd (cc)
-no_receipt w (Step.OnDisconnect seat ending) e = absurd (cc)
-no_receipt w (Step.Data tag path tree) e = refl
-no_receipt w (Step.DataMerge tag entries) e = refl
-no_receipt w (Step.Push parts) e = refl
-no_receipt w (Step.Accepted id) e = refl
-no_receipt w (Step.Refused id why) e = refl
-no_receipt w (Step.Revoked tag why) e = refl
-no_receipt w Step.Connected e = refl
-no_receipt w Step.Disconnected e = refl
-no_receipt w (Step.CloseSeat seat) e = refl
+no_receipt w s none = by (call_of s) none
+  where
+    by : (o : Option (ℕ × Call)) → option_map (λ c. c.0) o ≡ None → option_map {U = ℕ × Receipt} (λ c. (c.0, receipt_with (unwrap_or (given_by w s) 0) c.1)) o ≡ None
+    by None e = refl
+    by (Some c) e = absurd (cc)
 
 -- a lane that is told notes alone
 pub lane_told : (n : ℕ) (w : World) (s : Step) (report : Report) (lane : Line) → does_close n s ≡ false → signed_by n (receipt_of w s) lane ≡ lane

@@ -12,14 +12,14 @@ use Rattle.rt_sync.specs.Core.{Covers, TakesOut}
 use Rattle.rt_sync.specs.Core.{without_first as without_sent}
 use Rattle.rt_mail.specs.Mailbox.{Known, known_of}
 use Rattle.rt_mail.specs.Lanes.{Line, Ring, without_first}
+use Rattle.rt_world.specs.declared.error.CoreError.{CoreError}
 use Rattle.rt_world.specs.declared.step.Step.{Step}
 use Rattle.rt_client.specs.declared.shared.Done.{Done}
-use Rattle.rt_client.specs.declared.error.ClientError.{ClientError}
 use Rattle.rt_client.specs.declared.error.ClientError.TheVariants as error
 use Rattle.rt_client.specs.Lanes.{lane_of, IsChanged, due, settled, settled_ring}
 use Rattle.rt_client.specs.Shared.{Held, AreTold, IsKept}
 use Rattle.rt_client.specs.Settling.{HandsDue, TakesFirst, HasCover, Settles, Closes, RefusesClose}
-use Rattle.rt_client.specs.Calls.{Locked, IsOpen, MakesOn, RefusesOn}
+use Rattle.rt_client.specs.Calls.{IsOpen, Made, Refuses, LacksMemory}
 use Rattle.rt_client.specs.laws.Keeping.{SettlingKeeps, TakingKeeps}
 use Rattle.rt_client.proofs.Called.{held_of}
 use Rattle.rt_client.proofs.Kept.{handing_keeps}
@@ -115,21 +115,30 @@ open_by n ids stopped client number ring before own has =
     let found = some_of (lane_of before.lanes number) has in
     (found.0, record { held = λ i. Some before; own = sym (own_is n client (lane_of before.lanes number) own) ∙ found.1 })
 
-pub seat_closed : (n : ℕ) (ids : Option Stamp) (stopped : Bool) (client number : ℕ) (ring : Ring) (before : Held) (done : Done) (new : Locked) → client ≡ n
-    → IsTrue (is_some (lane_of before.lanes number)) → MakesOn (locked_of n ids stopped (Some before)) (Step.CloseSeat number) done new
-    → Closes (locked_of n ids stopped (Some before)) (seated_of client number ring) new
-seat_closed n ids stopped client number ring before done new own has made =
+pub seat_closed : (n : ℕ) (ids : Option Stamp) (stopped : Bool) (client number : ℕ) (ring : Ring) (before after : Held) (done : Done) → client ≡ n
+    → IsTrue (is_some (lane_of before.lanes number)) → Made before (Step.CloseSeat number) done after
+    → Closes (locked_of n ids stopped (Some before)) (seated_of client number ring) (locked_of n ids stopped (Some after))
+seat_closed n ids stopped client number ring before after done own has made =
     let found = open_by n ids stopped client number ring before own has in
-    record { before = before; lane = found.0; is_open = found.1; done = done; made = made }
+    record {
+      before = before;
+      lane = found.0;
+      is_open = found.1;
+      done = done;
+      made = record { before = before; held = λ i. Some before; after = after; left = λ i. locked_of n ids stopped (Some after); made = made };
+    }
 
-pub seat_stays : (n : ℕ) (ids : Option Stamp) (stopped : Bool) (client number : ℕ) (ring : Ring) (before : Held) (why : ClientError) (new : Locked) → client ≡ n
-    → IsTrue (is_some (lane_of before.lanes number)) → RefusesOn (locked_of n ids stopped (Some before)) (Step.CloseSeat number) why new
-    → RefusesClose (locked_of n ids stopped (Some before)) (seated_of client number ring) why new
-seat_stays n ids stopped client number ring before error.Failed new own has r = r
-seat_stays n ids stopped client number ring before error.WrongSeat new own has r = absurd r
-seat_stays n ids stopped client number ring before error.MailboxFull new own has r = absurd r
-seat_stays n ids stopped client number ring before error.TooManySeats new own has r = absurd r
-seat_stays n ids stopped client number ring before (error.Core refused) new own has r =
-    let found = open_by n ids stopped client number ring before own has in (before, found.0, found.1, r)
-seat_stays n ids stopped client number ring before error.NoMemory new own has r =
-    let found = open_by n ids stopped client number ring before own has in (before, found.0, found.1, r)
+pub seat_stays : (n : ℕ) (ids : Option Stamp) (stopped : Bool) (client number : ℕ) (ring : Ring) (before after : Held) (why : CoreError) → client ≡ n
+    → IsTrue (is_some (lane_of before.lanes number)) → Refuses before (Step.CloseSeat number) (error.Core why) after
+    → RefusesClose (locked_of n ids stopped (Some before)) (seated_of client number ring) (error.Core why) (locked_of n ids stopped (Some after))
+seat_stays n ids stopped client number ring before after why own has r =
+    let found = open_by n ids stopped client number ring before own has in
+    (before, found.0, found.1, (before, λ i. Some before, r.0, λ i. locked_of n ids stopped (Some (r.1 i))))
+
+-- for want of memory the client fails
+pub seat_fails : (n : ℕ) (ids : Option Stamp) (stopped : Bool) (client number : ℕ) (ring : Ring) (before : Held) (given_up : Option Held) → client ≡ n
+    → IsTrue (is_some (lane_of before.lanes number)) → given_up ≡ None → LacksMemory before (Step.CloseSeat number)
+    → RefusesClose (locked_of n ids stopped (Some before)) (seated_of client number ring) error.NoMemory (locked_of n ids stopped given_up)
+seat_fails n ids stopped client number ring before given_up own has none r =
+    let found = open_by n ids stopped client number ring before own has in
+    (before, found.0, found.1, (before, λ i. Some before, r, λ i. locked_of n ids stopped (none i)))

@@ -24,14 +24,16 @@ use Rattle.rt_mail.specs.declared.item.Item.TheVariants as item
 use Rattle.rt_mail.specs.declared.item.Receipt.{Receipt}
 use Rattle.rt_mail.specs.Mailbox.{nothing_known, taken, known_of}
 use Rattle.rt_mail.specs.Lanes.{Line}
-use Rattle.rt_client.specs.Seats.{item_of, reflection, receipts_to, receipt_of, told_to, told_by, caller_of, does_close}
-use Rattle.rt_client.specs.Lanes.{new_lane, lane_of, with_told, settled}
+use Rattle.rt_client.specs.Seats.{item_of, reflection, receipts_in, receipts_to, receipt_of, told_to, told_by, caller_of, does_close}
+use Rattle.rt_client.specs.Lanes.{new_lane, lane_of, with_told, due, settled}
 use Rattle.rt_client.specs.Shared.{Held, IsWhole, foreseen, signed_by, lane_after}
 use Rattle.rt_client.specs.laws.Keeping.{NewIsWhole, StepStaysWhole, CallStaysWhole, SettlingStaysWhole, TakingStaysWhole, OpeningStaysWhole}
 use Rattle.rt_client.specs.laws.Reflecting.{StepReflects, ClosedIsForgotten}
+use Rattle.rt_client.proofs.Answered.{step_answered, changed_answered, handed_none}
 use Rattle.rt_client.proofs.Called.{stays_open}
 use Rattle.rt_client.proofs.Kept.{new_is_kept, step_keeps, lanes_new}
 use Rattle.rt_client.proofs.Numbers.{same_number, other_number}
+use Rattle.rt_client.proofs.PutBy.{no_receipt}
 use Rattle.rt_client.proofs.Settled.{settling_keeps, taking_keeps}
 
 -- ---- what is told to one of whom nothing is known
@@ -54,20 +56,8 @@ told_nothing seat w s (Err e) none = refl
 told_nothing seat w s (Ok report) none = ap (λ xs. known_of nothing_known (xs ++ told_to seat report.notes)) none ∙ told_unknown seat report.notes
 
 -- a step that is no seat's call has no receipt
-no_receipt : (seat : ℕ) (w : World) (s : Step) → caller_of s ≡ None → receipts_to seat w s ≡ []
-no_receipt seat w (Step.Listen own query) none = cc
-no_receipt seat w (Step.Unlisten own n) none = cc
-no_receipt seat w (Step.Write own action) none = cc
-no_receipt seat w (Step.OnDisconnect own ending) none = cc
-no_receipt seat w (Step.Data tag path tree) none = refl
-no_receipt seat w (Step.DataMerge tag entries) none = refl
-no_receipt seat w (Step.Push parts) none = refl
-no_receipt seat w (Step.Accepted id) none = refl
-no_receipt seat w (Step.Refused id why) none = refl
-no_receipt seat w (Step.Revoked tag why) none = refl
-no_receipt seat w Step.Connected none = refl
-no_receipt seat w Step.Disconnected none = refl
-no_receipt seat w (Step.CloseSeat own) none = refl
+no_receipts : (seat : ℕ) (w : World) (s : Step) → caller_of s ≡ None → receipts_to seat w s ≡ []
+no_receipts seat w s none = ap (λ o. option_map_or (λ (r : ℕ × Receipt). cond (r.0 == seat) (item.Receipt r.1 ∷ []) []) o []) (no_receipt w s none)
 
 -- ---- one step
 
@@ -120,7 +110,7 @@ step_unknown : StepReflects → ClosedIsForgotten → (seat : ℕ) (w : World) (
 step_unknown one closed seat w s old sound none before gone =
     elim (does_close seat s) as (λ b. does_close seat s ≡ b → reflection (step w s).0 seat ≡ nothing_known) [
       | true ↦ λ e. closes_unknown closed seat w s old e before gone
-      | false ↦ λ e. stays_unknown one seat w s old sound e (no_receipt seat w s none) before gone
+      | false ↦ λ e. stays_unknown one seat w s old sound e (no_receipts seat w s none) before gone
     ] refl
 
 -- what holds of a world, and after each step that is not refused, holds after any step
@@ -148,6 +138,7 @@ step_stays_whole stays steady within one closed old new s done whole none made =
           let after : (step w s).0 ≡ v = cc in
           ap (λ u. reflection u seat) (sym after)
           ∙ step_unknown one closed seat w s (lane_of old.lanes seat) sound none (whole.unknown w made.core seat) (sym (made.makes.lanes seat) ∙ gone);
+      answered = step_answered w s (step w s).1 old.lanes new.lanes whole.answered made.makes.lanes;
     }
 
 -- ---- the call of an open seat
@@ -181,6 +172,7 @@ call_stays_whole stays steady within one old new own had left c done whole calle
           ∙ stays_unknown one seat w s (lane_of old.lanes seat) sound (stays_open seat own c)
           (not_theirs seat own w s old.lanes called.lane called.receipt called.signed called.is_open none)
           (whole.unknown w made.core seat) left_none;
+      answered = step_answered w s (step w s).1 old.lanes new.lanes whole.answered made.makes.lanes;
     }
 
 -- ---- no step
@@ -191,6 +183,7 @@ new_is_whole sound steady within limits lanes new = record {
   steady = λ v is. let same : empty_world limits ≡ v = cc in subst IsSteady same (steady limits);
   within = λ v is. let same : empty_world limits ≡ v = cc in subst IsWithin same (within limits);
   unknown = λ v is seat none. let same : empty_world limits ≡ v = cc in ap (λ u. reflection u seat) (sym same);
+  answered = λ seat lane is. ap (λ (l : Line). receipts_in l.waiting) (new seat lane is);
 }
 
 pub settling_stays_whole : SettlingStaysWhole
@@ -199,6 +192,7 @@ settling_stays_whole old new seat had left whole s = record {
   steady = λ v is. whole.steady v (sym s.core ∙ is);
   within = λ v is. whole.within v (sym s.core ∙ is);
   unknown = λ v is n gone. whole.unknown v (sym s.core ∙ is) n (before (seat == n) (lane_of old.lanes n) (sym (s.lanes n) ∙ gone));
+  answered = changed_answered old.lanes new.lanes seat (settled had s.lane) (handed_none (due had s.lane) s.lane (whole.answered seat s.lane s.is_open)) whole.answered s.lanes;
 }
   where
     before : (b : Bool) (o : Option Line) → cond b (Some (settled had s.lane)) o ≡ None → o ≡ None
@@ -227,6 +221,7 @@ taking_stays_whole taken steady old new message whole t = record {
       let same : without_sent t.world ≡ v = at (sym (ap (λ (h : Held). h.core) t.left) ∙ is) in
       ap (λ u. reflection u seat) (sym same)
       ∙ whole.unknown t.world t.core seat (sym (ap (λ (h : Held). lane_of h.lanes seat) t.left) ∙ none);
+  answered = λ seat lane is. whole.answered seat lane (sym (ap (λ (h : Held). lane_of h.lanes seat) t.left) ∙ is);
 }
   where
     at : {u v : World} → Some u ≡ Some v → u ≡ v
@@ -244,6 +239,7 @@ opening_stays_whole old new seat whole free core changed = record {
   unknown = λ v is n gone. whole.unknown v (sym core ∙ is) n (before (seat == n) (lane_of old.lanes n) (sym (changed n) ∙ gone));
   steady = λ v is. whole.steady v (sym core ∙ is);
   within = λ v is. whole.within v (sym core ∙ is);
+  answered = changed_answered old.lanes new.lanes seat new_lane refl whole.answered changed;
 }
   where
     before : (b : Bool) (o : Option Line) → cond b (Some new_lane) o ≡ None → o ≡ None

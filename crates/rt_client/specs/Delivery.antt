@@ -11,7 +11,7 @@ use Rattle.rt_client.specs.declared.error.ClientError.{ClientError}
 use Rattle.rt_client.specs.declared.error.ClientError.TheVariants.{Failed, WrongSeat, MailboxFull}
 use Rattle.rt_client.specs.declared.error.ClientError.TheVariants.{TooManySeats, Core, NoMemory}
 use Rattle.rt_client.specs.Calls.{Locked, Seated}
-use Rattle.rt_client.specs.Settling.{Settles, RefusesSettle}
+use Rattle.rt_client.specs.Settling.{Settles, RefusesSettle, Comes}
 
 -- the seat with nothing in its ring
 abbrev pub emptied : Seated → Seated
@@ -69,11 +69,12 @@ pub record RefusesTurnOf (locked : Locked) (had : Seated) (why : ClientError) (l
   pub rest : Locked
   pub refused : RefusesSettle locked had why rest left
 
--- over so many turns, one at least: the sink takes what the ring held and then what was handed over to
--- it, in order, which in no turn is more than the ring can hold; the ring is empty
+-- over so many turns, one at least: the sink takes what the ring held and then what its seat's lane handed
+-- over to it, in order, which in no turn is more than the ring can hold; the ring is empty
 pub record HandsOut {S : Type 0} (after : S → Item → S) (turns : ℕ) (had : Seated) (old : S)
     (left : Seated) (new : S) : Type 0 where
   pub came : List Item
+  pub comes : Comes turns had came
   pub fits : length came ≤ turns * had.ring.capacity
   pub sink : new ≡ fold after old (had.ring.items ++ came)
   pub seat : left ≡ emptied had

@@ -1,5 +1,5 @@
 -- What a seat is told is given to a thread's work, item by item.
-use Rattle.std.specs.Prelude.{◌≡◌, true, List, [], ◌++◌, Option, Some, Result, Ok, Err, drop}
+use Rattle.std.specs.Prelude.{◌≡◌, ℕ, true, List, [], ◌++◌, Option, Some, Result, Ok, Err, drop}
 use Rattle.std.specs.Borrow.{Bor}
 use Rattle.std.specs.Fn.{CalledAt, Mut}
 use Rattle.std.specs.List.{FoldsTo, slice_get}
@@ -7,6 +7,7 @@ use Rattle.rt_mail.specs.declared.item.Item.{Item}
 use Rattle.rt_client.specs.declared.error.ClientError.{ClientError}
 use Rattle.rt_client.specs.Calls.{Seated}
 use Rattle.rt_client.specs.Delivery.{RefusesTurn}
+use Rattle.rt_client.specs.Settling.{Comes}
 use Rattle.rt_client.specs.Waiting.{has_none}
 
 -- the seat with other items in its ring
@@ -14,10 +15,12 @@ abbrev pub with_ring : List Item → Seated → Seated
 with_ring items seat = record seat { ring = record seat.ring { items = items } }
 
 module _ {F E : Type 0} (g : Mut F (Bor Item × Unit {0}) (Result (Unit {0}) E)) where
-  -- some first items of what the ring held and of what came were given to the work, in order, each taken
-  -- without a fault; the others are in the ring
+  -- some first items of what the ring held and of what its seat's lane handed over were given to the work, in
+  -- order, each taken without a fault; the others are in the ring
   pub record HasGiven (f : F) (old : Seated) (last : F) (new : Seated) : Type 0 where
     pub came : List Item
+    pub settlings : ℕ
+    pub comes : Comes settlings old came
     pub given : List Item
     pub items : old.ring.items ++ came ≡ given ++ new.ring.items
     pub taken : FoldsTo (λ at item next. CalledAt g at item (Ok tt) next) f given last

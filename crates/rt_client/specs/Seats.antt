@@ -1,14 +1,17 @@
 -- Seats: what the core knows of one, and what a step tells it.
 use Rattle.std.specs.Prelude.{ℕ, Bool, false, if◌then◌else◌, List, [], ◌∷◌, ◌++◌, map, ◌==◌}
-use Rattle.std.specs.Prelude.{Option, Some, None, Ok, Err}
+use Rattle.std.specs.Prelude.{Option, Some, None, Ok, Err, unwrap_or}
 use Rattle.std.specs.List.{filter, filter_map}
-use Rattle.std.specs.Option.{option_map_or}
+use Rattle.std.specs.Option.{option_map, option_map_or, option_or}
 use Rattle.rt_view.specs.Changes.{by_keys, rows_in}
 use Rattle.rt_world.specs.declared.report.Body.{Body}
 use Rattle.rt_world.specs.declared.report.Body.TheVariants as body
 use Rattle.rt_world.specs.declared.report.Note.{Note}
+use Rattle.rt_world.specs.declared.step.Call.{Call}
+use Rattle.rt_world.specs.declared.step.Call.TheVariants as call
 use Rattle.rt_world.specs.declared.step.Request.{Request}
 use Rattle.rt_world.specs.declared.step.Step.{Step}
+use Rattle.rt_world.specs.After.{listener_given, request_given}
 use Rattle.rt_world.specs.World.{Listener, World}
 use Rattle.rt_world.specs.Answers.{Answer, step}
 use Rattle.rt_mail.specs.declared.item.Item.{Item}
@@ -46,43 +49,56 @@ item_of (body.Batch b) = item.Batch b
 abbrev pub told_to : ℕ → List Note → List Item
 told_to seat notes = filter_map (λ n. if n.seat == seat then Some (item_of n.body) else None) notes
 
--- the seat whose call the step is, and the receipt that the call is answered with: it has the number
--- that the step gives, or the call's own listener, and the call's own query, write or request
-abbrev pub receipt_of : World → Step → Option (ℕ × Receipt)
-receipt_of w (Step.Listen seat query) = Some (seat, Listened w.next_listener query)
-receipt_of w (Step.Unlisten seat listener) = Some (seat, Unlistened listener)
-receipt_of w (Step.Write seat action) = Some (seat, Wrote w.next_request action)
-receipt_of w (Step.OnDisconnect seat ending) = Some (seat, Asked w.next_request ending)
-receipt_of w (Step.Data tag path tree) = None
-receipt_of w (Step.DataMerge tag entries) = None
-receipt_of w (Step.Push parts) = None
-receipt_of w (Step.Accepted id) = None
-receipt_of w (Step.Refused id why) = None
-receipt_of w (Step.Revoked tag why) = None
-receipt_of w Step.Connected = None
-receipt_of w Step.Disconnected = None
-receipt_of w (Step.CloseSeat seat) = None
+-- the seat whose call the step is, and the call, if it is one
+abbrev pub call_of : Step → Option (ℕ × Call)
+call_of (Step.Listen seat query) = Some (seat, call.Listen query)
+call_of (Step.Unlisten seat listener) = Some (seat, call.Unlisten listener)
+call_of (Step.Write seat action) = Some (seat, call.Write action)
+call_of (Step.OnDisconnect seat ending) = Some (seat, call.OnDisconnect ending)
+call_of (Step.Data tag path tree) = None
+call_of (Step.DataMerge tag entries) = None
+call_of (Step.Push parts) = None
+call_of (Step.Accepted id) = None
+call_of (Step.Refused id why) = None
+call_of (Step.Revoked tag why) = None
+call_of Step.Connected = None
+call_of Step.Disconnected = None
+call_of (Step.CloseSeat seat) = None
 
--- the seat whose call the step is, if it is one
 abbrev pub caller_of : Step → Option ℕ
-caller_of (Step.Listen seat query) = Some seat
-caller_of (Step.Unlisten seat listener) = Some seat
-caller_of (Step.Write seat action) = Some seat
-caller_of (Step.OnDisconnect seat ending) = Some seat
-caller_of (Step.Data tag path tree) = None
-caller_of (Step.DataMerge tag entries) = None
-caller_of (Step.Push parts) = None
-caller_of (Step.Accepted id) = None
-caller_of (Step.Refused id why) = None
-caller_of (Step.Revoked tag why) = None
-caller_of Step.Connected = None
-caller_of Step.Disconnected = None
-caller_of (Step.CloseSeat seat) = None
+caller_of s = option_map (λ c. c.0) (call_of s)
+
+-- the receipt of a call whose step gives that number: it repeats the call
+abbrev pub receipt_with : ℕ → Call → Receipt
+receipt_with number (call.Listen query) = Listened number query
+receipt_with number (call.Unlisten listener) = Unlistened listener
+receipt_with number (call.Write action) = Wrote number action
+receipt_with number (call.OnDisconnect ending) = Asked number ending
+
+-- the number that a step gives to the listener or the request that it makes, if it makes one
+abbrev pub given_by : World → Step → Option ℕ
+given_by w s = option_or (listener_given w s) (request_given w s)
+
+-- the seat whose call the step is, and the receipt that the call is answered with; the end of a listener
+-- is given no number
+abbrev pub receipt_of : World → Step → Option (ℕ × Receipt)
+receipt_of w s =
+    option_map (λ c. (c.0, receipt_with (unwrap_or (given_by w s) 0) c.1)) (call_of s)
 
 -- the receipt for a seat, where the step is its call
 abbrev pub receipts_to : ℕ → World → Step → List Item
 receipts_to seat w s =
     option_map_or (λ r. if r.0 == seat then item.Receipt r.1 ∷ [] else []) (receipt_of w s) []
+
+-- the receipts among items, in order
+abbrev pub receipt_in : Item → Option Receipt
+receipt_in (item.Receipt r) = Some r
+receipt_in (item.Settled id why) = None
+receipt_in (item.Cancelled n why) = None
+receipt_in (item.Batch b) = None
+
+abbrev pub receipts_in : List Item → List Receipt
+receipts_in items = filter_map receipt_in items
 
 -- what a seat is told of an answer to a step: the receipt of its own call, and then its notes; of a
 -- refusal nothing

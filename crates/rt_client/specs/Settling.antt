@@ -1,5 +1,6 @@
 -- What is handed over, closed and taken out of a client's locked value, and what it shows.
-use Rattle.std.specs.Prelude.{◌≡◌, ℕ, take, List, Option, Some}
+use Rattle.std.specs.Prelude.{◌≡◌, ℕ, zero, suc, take, List, [], ◌++◌, Option, Some}
+use Rattle.rt_mail.specs.declared.item.Item.{Item}
 use Rattle.rt_cover.specs.declared.listen.Kept.{Kept}
 use Rattle.rt_wire.specs.declared.client.ClientMessage.{ClientMessage}
 use Rattle.rt_world.specs.declared.step.Step.{Step}
@@ -12,7 +13,7 @@ use Rattle.rt_client.specs.declared.error.ClientError.TheVariants.{Failed, Wrong
 use Rattle.rt_client.specs.declared.error.ClientError.TheVariants.{TooManySeats, Core, NoMemory}
 use Rattle.rt_client.specs.Lanes.{lane_of, IsChanged, settled, settled_ring}
 use Rattle.rt_client.specs.Shared.{Held}
-use Rattle.rt_client.specs.Calls.{Locked, Seated, HasFailed, IsWrong, IsOpen, IsSame, Fails}
+use Rattle.rt_client.specs.Calls.{Locked, Seated, HasFailed, IsWrong, IsOpen, IsSame, Fails, Keeps}
 use Rattle.rt_client.specs.Calls.{MakesOn, RefusesOn}
 
 -- ---- what is held
@@ -70,6 +71,23 @@ RefusesSettle old seat NoMemory new left =
     (before : Held) × (old.held ≡ Some before) × (seat.client ≡ old.number)
     × (ring : Ring) × HandsPart before seat.number seat.ring ring
     × (left ≡ record seat { ring = ring }) × Fails old new
+
+-- the first items that wait in the seat's lane, so many, in a value that the lock keeps
+pub record IsHanded (seat : Seated) (items : List Item) : Type 0 where
+  pub locked : Locked
+  pub keeps : Keeps locked
+  pub before : Held
+  pub lane : Line
+  pub is_open : IsOpen locked before seat lane
+  pub count : ℕ
+  pub first : items ≡ take count lane.waiting
+
+-- what comes by so many settlings, one after another
+abbrev pub Comes : ℕ → Seated → List Item → Type 0
+Comes zero seat came = came ≡ []
+Comes (suc n) seat came =
+    (before : List Item) × (last : List Item) × (came ≡ before ++ last) × Comes n seat before
+    × IsHanded seat last
 
 -- the step that the end of an open seat is
 pub record Closes (old : Locked) (seat : Seated) (new : Locked) : Type 0 where

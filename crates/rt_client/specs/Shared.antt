@@ -1,5 +1,5 @@
 -- What a client's lock keeps: a core's world, and the lanes of its seats.
-use Rattle.std.specs.Prelude.{◌≡◌, ℕ, if◌then◌else◌, ◌==◌, List, Option, Some, None, Ok}
+use Rattle.std.specs.Prelude.{◌≡◌, ℕ, if◌then◌else◌, ◌==◌, List, [], Option, Some, None, Ok}
 use Rattle.std.specs.Prelude.{Err}
 use Rattle.std.specs.Option.{option_map, option_map_or}
 use Rattle.rt_world.specs.declared.step.Step.{Step}
@@ -11,7 +11,7 @@ use Rattle.rt_world.specs.laws.Holds.{IsSteady}
 use Rattle.rt_mail.specs.declared.item.Receipt.{Receipt}
 use Rattle.rt_mail.specs.Mailbox.{Known, nothing_known, known_of}
 use Rattle.rt_mail.specs.Lanes.{Line, signed_lane}
-use Rattle.rt_client.specs.Seats.{reflection, told_to, receipt_of, does_close}
+use Rattle.rt_client.specs.Seats.{reflection, told_to, receipt_of, receipts_in, does_close}
 use Rattle.rt_client.specs.Lanes.{lane_of, with_told}
 
 -- ---- what is kept
@@ -45,7 +45,12 @@ abbrev pub AreUnknown : World → List (Option Line) → Type 0
 AreUnknown w lanes =
     (seat : ℕ) → lane_of lanes seat ≡ None → reflection w seat ≡ nothing_known
 
--- both of it, so that a seat can be opened where there is no lane; and the world is one that steps lead to,
+-- no receipt waits: each call is answered at once, in its seat's ring
+abbrev pub NoReceiptWaits : List (Option Line) → Type 0
+NoReceiptWaits lanes =
+    (seat : ℕ) (lane : Line) → lane_of lanes seat ≡ Some lane → receipts_in lane.waiting ≡ []
+
+-- all of it, so that a seat can be opened where there is no lane; and the world is one that steps lead to,
 -- as far as the laws of its steps ask for it: what the listens brought belongs to them, and no limit is
 -- passed
 pub record IsWhole (h : Held) : Type 0 where
@@ -53,6 +58,7 @@ pub record IsWhole (h : Held) : Type 0 where
   pub unknown : (w : World) → h.core ≡ Some w → AreUnknown w h.lanes
   pub steady : (w : World) → h.core ≡ Some w → IsSteady w
   pub within : (w : World) → h.core ≡ Some w → IsWithin w
+  pub answered : NoReceiptWaits h.lanes
 
 -- ---- a step
 

@@ -1,4 +1,5 @@
 -- Laws for callers, and what the prover computes of literals.
+pub mod Answering
 pub mod Crossing
 pub mod Examples
 pub mod Following

@@ -439,11 +439,14 @@ impl Client {
         seat: &Seat,
         notices: u64,
     ) -> Option<MutexGuard<'a, Shared>>
-        ensures { IfSome result (λ shared. is_due (mutex_guard_value shared) seat.now ≡ true) }
+        ensures due { IfSome result (λ shared. is_due (mutex_guard_value shared) seat.now ≡ true) }
+        ensures kept { IfSome result (λ shared. Keeps (mutex_guard_value shared)) }
     {
         let mut shared = self.shared.lock(rt);
         for _ in rt.forever() {
             if shared.is_due(seat) {
+                // For the prover: what the lock keeps.
+                let _has_failed = shared.has_failed();
                 return Some(shared);
             }
             if self.notices() != notices {

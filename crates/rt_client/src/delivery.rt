@@ -2,6 +2,7 @@
 ghost use Rattle.std.specs.Prelude.{◌≡◌, ◌≢◌, Ok, true, false, IfErr, IfNone, IfSome, OnOk};
 ghost use Rattle.std.specs.Sync.Mutex.{mutex_guard_value};
 ghost use Rattle.rt_client.specs.Delivery.{Turns, RefusesTurnOf, Delivers, RefusesDelivery};
+ghost use Rattle.rt_client.specs.Calls.{Keeps};
 ghost use Rattle.rt_client.specs.Waiting.{is_due};
 ghost use Rattle.rt_client.specs.declared.error.ClientError.TheVariants.{NoMemory};
 
@@ -74,6 +75,7 @@ fn go_on<'a, R: Wait, G: Gate>(
     ensures stops { IfNone result (G.may_stop gate.now) }
     ensures goes { IfSome result (λ shared. G.may_go gate.now) }
     ensures due { IfSome result (λ shared. is_due (mutex_guard_value shared) seat.now ≡ true) }
+    ensures kept { IfSome result (λ shared. Keeps (mutex_guard_value shared)) }
 {
     for _ in rt.forever() {
         let notices = client.notices();

@@ -2,13 +2,14 @@
 ghost use Rattle.std.specs.Prelude.{◌≡◌, Some, None, IfOk, OnOk, IfErr, IsTrue, is_some};
 ghost use Rattle.std.specs.Option.{option_map_or};
 ghost use Rattle.rt_world.specs.World.{World};
-ghost use Rattle.rt_client.specs.Seats.{caller_of, closed_by};
+ghost use Rattle.rt_client.specs.Seats.{caller_of, closed_by, receipt_with};
 ghost use Rattle.rt_client.specs.Lanes.{lane_of, HasRoom, signed_ring};
-ghost use Rattle.rt_client.specs.inside.Receipts.{AreSigned, receipt_with};
+ghost use Rattle.rt_client.specs.inside.Receipts.{AreSigned};
 ghost use Rattle.rt_world.specs.Calls.{step_of};
 ghost use Rattle.rt_client.specs.Calls.{Made, Refuses, Called, RefusesCalled};
 ghost use Rattle.rt_client.specs.Settling.{HandsDue, TakesFirst, HasCover};
 ghost use Rattle.rt_client.specs.Viewing.{HasShown, RefusesShown};
+ghost use Rattle.rt_world.specs.declared.step.Step.TheVariants as step;
 
 use crate::error::ClientError;
 use crate::lanes::Lanes;
@@ -63,27 +64,6 @@ impl Model for Held {
     ghost view = { λ a. record { core = world_in a.core; lanes = a.lanes } };
 }
 
-// The seat that the step closes, if it closes one.
-fn closed_by(step: &Step) -> Option<u64>
-    ensures { result ≡ closed_by step.now }
-{
-    match step {
-        Step::CloseSeat { seat } => Some(*seat),
-        Step::Listen { .. }
-        | Step::Unlisten { .. }
-        | Step::Write { .. }
-        | Step::OnDisconnect { .. }
-        | Step::Data { .. }
-        | Step::DataMerge { .. }
-        | Step::Push { .. }
-        | Step::Accepted { .. }
-        | Step::Refused { .. }
-        | Step::Revoked { .. }
-        | Step::Connected
-        | Step::Disconnected => None,
-    }
-}
-
 // The seat's lane hands over all that waits and then the receipt, which is never refused, and each note
 // waits in its seat's lane, in order. No open lane has failed, so want of memory is all that can be
 // answered.
@@ -107,15 +87,15 @@ fn tell(
 }
 
 impl Held {
-    // One step of the core that is answered with no receipt: its notes wait in their lanes, and the
-    // lane of a seat that it closes goes. After want of memory what is held is given up.
+    // One step of the core that is neither a seat's call nor its end: its notes wait in their lanes. After
+    // want of memory what is held is given up.
     pub(crate) fn after(&mut self, step: Step) -> Result<Done, ClientError>
         requires world { (w : World) × (self.old.core ≡ Some w) }
         requires no_call { caller_of step ≡ None }
+        requires no_end { closed_by step ≡ None }
         ensures made { IfOk result (λ done. Made self.old step done self.new) }
         ensures refused { IfErr result (λ e. Refuses self.old step e self.new) }
     {
-        let closed = closed_by(&step);
         match self.core.apply(step) {
             Ok(
                 Report {
@@ -128,9 +108,32 @@ impl Held {
                 if self.lanes.queue_all(notes).is_err() {
                     return Err(ClientError::NoMemory);
                 }
-                if let Some(seat) = closed {
-                    self.lanes.close(seat);
+                Ok(Done { outcome, given })
+            }
+            Err(error) => Err(ClientError::from(error)),
+        }
+    }
+
+    // The step that the end of a seat is: its notes wait in their lanes, and its own lane goes. After want of
+    // memory what is held is given up.
+    pub(crate) fn close(&mut self, seat: u64) -> Result<Done, ClientError>
+        requires world { (w : World) × (self.old.core ≡ Some w) }
+        ensures made { IfOk result (λ done. Made self.old (step.CloseSeat seat) done self.new) }
+        ensures refused { IfErr result (λ e. Refuses self.old (step.CloseSeat seat) e self.new) }
+    {
+        match self.core.apply(Step::CloseSeat { seat }) {
+            Ok(
+                Report {
+                    outcome,
+                    given,
+                    notes,
+                },
+            ) => {
+                // No open lane has failed, so want of memory is all that can be answered.
+                if self.lanes.queue_all(notes).is_err() {
+                    return Err(ClientError::NoMemory);
                 }
+                self.lanes.close(seat);
                 Ok(Done { outcome, given })
             }
             Err(error) => Err(ClientError::from(error)),

@@ -1,6 +1,7 @@
 // The laws of push ids as keys.
 ghost use Rattle.rt_client.specs.PushKeys.{IdsAreKeys, KeysRise, NoIntegerKeys};
 ghost use Rattle.rt_client.specs.laws.Examples.{FallsAbove, FallsBelow, FourRise};
+ghost use Rattle.rt_client.specs.laws.Answering.{AnswersOnce, SettlesUnasked, ComesUnasked, TwiceIsNotOnce};
 ghost use Rattle.rt_client.specs.laws.Crossing.{ClientIsShared, ClientIsSent, SeatIsSent, ItemIsSent};
 ghost use Rattle.rt_client.specs.laws.Crossing.{MirrorIsSent, SnapshotsAreSent, QueryIsSent, PathIsSent};
 ghost use Rattle.rt_client.specs.laws.Crossing.{TreeIsSent, TreeIsShared, KeyIsSent, EntriesAreSent};
@@ -132,6 +133,15 @@ pub fn keeping_law()
     sending_law();
     reflection_law();
 }
+
+/// No receipt waits. So a call that is made puts one receipt into its seat's ring, its own, and a settling
+/// puts none: two calls of a seat under the client's own lock are never one, whatever others do beside.
+pub fn answering_law()
+    ensures once { AnswersOnce }
+    ensures settling { SettlesUnasked }
+    ensures coming { ComesUnasked }
+    ensures twice { TwiceIsNotOnce }
+{}
 
 // ---- the laws of what seats are told
 

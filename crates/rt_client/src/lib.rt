@@ -58,7 +58,7 @@ pub use client::{Client, ClientNumbers};
 pub use delivery::{Gate, Sink, deliver, turn};
 pub use error::ClientError;
 pub use laws::{
-    crossing_law, following_law, ids_are_keys, keeping_law, keys_rise, mirror_law,
+    answering_law, crossing_law, following_law, ids_are_keys, keeping_law, keys_rise, mirror_law,
     push_key_examples, reflection_law, showing_law,
 };
 pub use rt_wire::Action;

@@ -112,10 +112,16 @@ impl Shared {
     }
 }
 
-// Makes one step of the core that is no seat's call: each note waits in its seat's lane, in order,
-// and the lane of a seat that the step closes goes. A step that is refused changes nothing.
-pub(crate) fn make_step(shared: &mut Shared, step: Step) -> Result<Done, ClientError>
-    requires { caller_of step ≡ None }
+/// Makes one step of the core that is neither a seat's call nor its end: each note waits in its seat's
+/// lane, in order. A step that is refused changes nothing. A seat is ended by [`Shared::close_seat`],
+/// which takes it.
+///
+/// # Errors
+///
+/// Failed, a refusal of the core, and NoMemory, after which the client has failed.
+pub fn with_core(shared: &mut Shared, step: Step) -> Result<Done, ClientError>
+    requires no_call { caller_of step ≡ None }
+    requires no_end { closed_by step ≡ None }
     ensures made { IfOk result (λ done. MakesOn shared.old step done shared.new) }
     ensures refused { IfErr result (λ e. RefusesOn shared.old step e shared.new) }
 {
@@ -139,22 +145,6 @@ pub(crate) fn make_step(shared: &mut Shared, step: Step) -> Result<Done, ClientE
             | ClientError::TooManySeats,
         ) => unreachable!(),
     }
-}
-
-/// Makes one step of the core that is neither a seat's call nor its end: each note waits in its seat's
-/// lane, in order. A step that is refused changes nothing. A seat is ended by [`Shared::close_seat`],
-/// which takes it.
-///
-/// # Errors
-///
-/// Failed, a refusal of the core, and NoMemory, after which the client has failed.
-pub fn with_core(shared: &mut Shared, step: Step) -> Result<Done, ClientError>
-    requires no_call { caller_of step ≡ None }
-    requires no_end { closed_by step ≡ None }
-    ensures made { IfOk result (λ done. MakesOn shared.old step done shared.new) }
-    ensures refused { IfErr result (λ e. RefusesOn shared.old step e shared.new) }
-{
-    make_step(shared, step)
 }
 
 /// A call that was refused: the call, where it was not looked at, and why.
@@ -583,7 +573,9 @@ impl Shared {
         ensures back { IfErr result (λ refused. refused.seat ≡ seat) }
         ensures refused { IfErr result (λ refused. RefusesClose self.old seat refused.why self.new) }
     {
-        let Some(held) = &self.held else {
+        // For the prover: a step keeps what the lock keeps.
+        keeping_law();
+        let Some(held) = &mut self.held else {
             let why = ClientError::Failed;
             return Err(Unclosed { seat, why });
         };
@@ -591,13 +583,26 @@ impl Shared {
             let why = ClientError::WrongSeat;
             return Err(Unclosed { seat, why });
         }
-        let step = Step::CloseSeat { seat: seat.number };
-        match make_step(self, step) {
+        match held.close(seat.number) {
             Ok(_done) => {
                 drop(seat);
                 Ok(())
             }
-            Err(why) => Err(Unclosed { seat, why }),
+            Err(ClientError::NoMemory) => {
+                drop(self.held.take());
+                let why = ClientError::NoMemory;
+                Err(Unclosed { seat, why })
+            }
+            Err(ClientError::Core(refused)) => {
+                let why = ClientError::Core(refused);
+                Err(Unclosed { seat, why })
+            }
+            Err(
+                ClientError::Failed
+                | ClientError::WrongSeat
+                | ClientError::MailboxFull
+                | ClientError::TooManySeats,
+            ) => unreachable!(),
         }
     }
 }

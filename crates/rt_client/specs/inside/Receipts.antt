@@ -1,19 +1,12 @@
--- The receipt of a call, by the number that its step gave, and how the lanes are told.
+-- How the lanes are told of a call that is made, and whether it is given a number.
 use Rattle.std.specs.Prelude.{ℕ, Bool, true, false, List, Option}
 use Rattle.std.specs.Option.{option_map}
 use Rattle.rt_world.specs.declared.report.Note.{Note}
-use Rattle.rt_mail.specs.declared.item.Receipt.{Receipt}
-use Rattle.rt_mail.specs.declared.item.Receipt.TheVariants.{Listened, Unlistened, Wrote, Asked}
-use Rattle.rt_mail.specs.Lanes.{Line, signed_lane}
 use Rattle.rt_world.specs.declared.step.Call.{Call}
 use Rattle.rt_world.specs.declared.step.Call.TheVariants as call
+use Rattle.rt_mail.specs.declared.item.Receipt.{Receipt}
+use Rattle.rt_mail.specs.Lanes.{Line, signed_lane}
 use Rattle.rt_client.specs.Lanes.{lane_of, IsChanged, AreQueued}
-
-abbrev pub receipt_with : ℕ → Call → Receipt
-receipt_with number (call.Listen query) = Listened number query
-receipt_with number (call.Unlisten listener) = Unlistened listener
-receipt_with number (call.Write action) = Wrote number action
-receipt_with number (call.OnDisconnect ending) = Asked number ending
 
 -- the seat's lane is signed, and then each lane is told its notes
 pub record AreSigned (seat : ℕ) (receipt : Receipt) (notes : List Note)

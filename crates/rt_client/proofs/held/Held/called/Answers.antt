@@ -6,7 +6,7 @@ use Rattle.rt_client.specs.Lanes.{lane_of, HasRoom}
 use Rattle.rt_client.specs.Shared.{Held}
 use Rattle.rt_world.specs.Calls.{step_of}
 use Rattle.rt_client.specs.Calls.{LacksMemory, Called, HandsSome, RefusesCalled}
-use Rattle.rt_client.specs.inside.Receipts.{receipt_with}
+use Rattle.rt_client.specs.Seats.{receipt_with}
 use Rattle.rt_client.proofs.Called.{held_of, call_made, call_gave_up, called_refuses, if_no_memory}
 use Rattle.rt_client.proofs.Steps.{step_refused}
 use Rattle.rt_client.proofs.held.Held.called.Goals as goal
