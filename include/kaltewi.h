@@ -48,7 +48,6 @@ enum {
     KW_FAILED = 6,          /* the client has lacked memory before: it makes no step and shows no cover from then on */
     KW_BAD_TEXT = 7,        /* no UTF-8, no JSON, or of another form than the call has */
     KW_WRONG_SEAT = 8,      /* the client has no such seat */
-    KW_MAILBOX_FULL = 9,    /* the seat's ring has no room: take items by kw_client_next first */
     KW_TOO_MANY_SEATS = 10, /* more than 64 */
     KW_REFUSED = 11         /* a layer refuses: kw_client_error says which, and why */
 };
@@ -76,12 +75,13 @@ void kw_core_close(kw_core *core);
    and a request have a number, from 1, which is never given twice.
 
    Any call may also end with KW_CLOSED, and nothing has changed; with KW_FAILED, once a step has lacked memory; and, but
-   for kw_client_settle, with KW_NO_MEMORY: where a text could not be read or made nothing has changed, else the client has
-   failed.
-   A client that has failed still gives what its rings hold, a message that was taken out before, and push ids. */
+   for kw_client_settle, with KW_NO_MEMORY: where a text could not be read or made, or memory lacked for items that a full
+   ring makes room for, the call is not made and nothing is lost; else the client has failed.
+   A client that has failed still gives what its seats hold, a message that was taken out before, and push ids. */
 
 /* Opens a client with a seat for each of so many numbers, each saying how many items the seat's ring holds: a 0 counts
-   as 1, and more than 65,536 as that. One that is open is closed first. KW_DONE, KW_TOO_MANY_SEATS, KW_NO_MEMORY. */
+   as 1, and more than 65,536 as that. A small ring does: where a call of the seat finds it full, its items are taken out
+   into memory that grows with them. One that is open is closed first. KW_DONE, KW_TOO_MANY_SEATS, KW_NO_MEMORY. */
 kw_status kw_client_open(kw_client *client, const size_t *rings, size_t seats);
 
 /* Closes a client; one that is closed stays so. */
@@ -93,14 +93,12 @@ kw_status kw_client_error(kw_client *client, uint32_t *code, uint8_t *out, size_
 
 /* -- calls of a seat
 
-   Each hands over to the seat's ring all that waited for it, and then the receipt of the call. A path is a text as
-   "/a/b", a tree is JSON, and entries are an object of trees by their paths: {"/a/b":1,"/c":null}.
+   Each hands over to the seat all that waited for it, and then the receipt of the call. A path is a text as "/a/b", a
+   tree is JSON, and entries are an object of trees by their paths: {"/a/b":1,"/c":null}.
 
    KW_DONE, and the number of the new listener or request; KW_BAD_TEXT where a text is no UTF-8, a query no JSON, or
-   entries no JSON object; KW_REFUSED where a path, a tree, a query or the core refuses it; KW_WRONG_SEAT;
-   KW_MAILBOX_FULL where the ring has no room for what waits and the receipt: take items by kw_client_next first, and
-   make the call again, for a write that is not made again is lost. On all but KW_DONE the number is 0 and, but for a
-   want of memory, nothing has changed. */
+   entries no JSON object; KW_REFUSED where a path, a tree, a query or the core refuses it; KW_WRONG_SEAT. On all but
+   KW_DONE the number is 0 and, but for a want of memory, nothing has changed: what waited may have been handed over. */
 
 /* Registers a listener, which the seat is told of from then on. The query is the member `q` of the message that listens,
    as {"limit":["last",2],"order":"/score"}, or an order alone, as {"order":"/score"}; one of no bytes listens to all of
@@ -160,8 +158,8 @@ enum { KW_REMOVED = 1, KW_ADDED = 2, KW_MOVED = 4, KW_CHANGED = 8, KW_VALUE = 16
    end is given: then it is told all kinds. KW_DONE; KW_WRONG_SEAT; on KW_NO_MEMORY it is told what it was told. */
 kw_status kw_client_want(kw_client *client, uint64_t seat, uint64_t listener, uint32_t kinds);
 
-/* Takes the first item of the seat's ring, as JSON. KW_DONE; KW_NONE where the ring is empty, which says nothing of what
-   still waits to be handed over; KW_TOO_SMALL, and then it is still to be had; KW_WRONG_SEAT. */
+/* Takes the first item that was handed over to the seat, as JSON. KW_DONE; KW_NONE where there is none, which says nothing
+   of what still waits to be handed over; KW_TOO_SMALL, and then it is still to be had; KW_WRONG_SEAT. */
 kw_status kw_client_next(kw_client *client, uint64_t seat, uint8_t *out, size_t room, size_t *len);
 
 /* -- what a client knows */

@@ -278,7 +278,7 @@ static const struct {
     {"ann", next_ann},               {"settle", settle_ann},     {"ann", next_ann},           {"ann", next_ann},
     {"ann", next_ann},               {"remove", remove_it},      {"full", at_end},            {"bob", next_bob},
     {"end", at_end},                 {"bob", next_bob},          {"bob", next_bob},           {"bob", next_bob},
-    {"want", want_changed},          {"no seat", want_elsewhere},
+    {"bob", next_bob},               {"want", want_changed},          {"no seat", want_elsewhere},
     {"push", tell_push},             {"no push", tell_twice},    {"why", say_why},
     {"revoke", tell_revoked},        {"settle", settle_ann},     {"ann", next_ann},           {"ann", next_ann},
     {"ann", next_ann},               {"ann", next_ann},          {"unlisten", unlisten_it},  {"settle", settle_bob},      {"bob", next_bob},

@@ -26,7 +26,6 @@ lines are.
 """
 from __future__ import annotations
 
-import collections
 import ctypes
 import json
 import os
@@ -51,7 +50,7 @@ __all__ = [
     "WrongSeat",
 ]
 
-DONE, NONE, STALE, TOO_SMALL, CLOSED, NO_MEMORY, FAILED, BAD_TEXT, WRONG_SEAT, MAILBOX_FULL, TOO_MANY_SEATS, REFUSED = range(12)
+DONE, NONE, STALE, TOO_SMALL, CLOSED, NO_MEMORY, FAILED, BAD_TEXT, WRONG_SEAT, _, TOO_MANY_SEATS, REFUSED = range(12)
 
 
 class Error(Exception):
@@ -275,11 +274,10 @@ class Client(_Open):
     _kind = "client"
 
     def __init__(self, rings: Sequence[int] = (64,), room: int = 4096):
-        """Opens a client with a seat for each of `rings`, which says how many items wait inside for the seat: where its ring is full they wait
-        here, and no call is refused. `room` is how many bytes a text is first given; a longer one gets its own.
+        """Opens a client with a seat for each of `rings`, which says for how many items the seat has room at first: for more it grows.
+        `room` is how many bytes a text is first given; a longer one gets its own.
 
         Raises TooManySeats, and NoMemory."""
-        self._taken: dict[int, collections.deque[dict]] = collections.defaultdict(collections.deque)
         super().__init__(room, (_SIZE * max(len(rings), 1))(*rings), len(rings))
 
     def seat(self, number: int = 1) -> Seat:
@@ -362,7 +360,7 @@ class Seat:
 
     def unlisten(self, listener: int) -> None:
         """Ends a listener of the seat."""
-        self._made("unlisten", listener)
+        self._client._done("unlisten", self.number, listener)
 
     def set(self, path: str, value: Any) -> int:
         """Writes a value at a path, and gives the number of the request; None removes. Numbers are whole: 5.0 is 5, and 0.5 raises Refused."""
@@ -398,17 +396,12 @@ class Seat:
     def items(self) -> Iterator[dict]:
         """What the seat is told, in order, until nothing waits for it."""
         while True:
-            taken = self._client._taken.get(self.number)
-            item = taken.popleft() if taken else self._next()
-            if item is None:
+            self._client._done("settle", self.number)
+            status, text = self._client._text("next", self.number)
+            if status == NONE:
                 return
-            yield item
-
-    def _next(self) -> Optional[dict]:
-        """The next item of the seat's ring, which has what waits for it first."""
-        self._client._done("settle", self.number)
-        status, text = self._client._text("next", self.number)
-        return json.loads(text) if status != NONE and self._client._checked(status) else None
+            self._client._checked(status)
+            yield json.loads(text)
 
     __iter__ = items
 
@@ -422,13 +415,5 @@ class Seat:
 
     def _numbered(self, name: str, *given: Any) -> int:
         number = _NUMBER()
-        self._made(name, *given, ctypes.byref(number))
+        self._client._done(name, self.number, *given, ctypes.byref(number))
         return number.value
-
-    def _made(self, name: str, *given: Any) -> None:
-        """Makes a call of the seat, and once more where its ring was full, when what was in it is taken out."""
-        status = self._client._status(name, self.number, *given)
-        if status == MAILBOX_FULL:
-            self._client._taken[self.number].extend(iter(self._next, None))
-            status = self._client._status(name, self.number, *given)
-        self._client._checked(status)

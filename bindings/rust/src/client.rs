@@ -2,19 +2,15 @@
 
 use crate::error::{error_of, Error};
 use crate::raw;
-use std::collections::{BTreeMap, VecDeque};
 
 /// A client with its seats, which are numbered from 1. Its texts go to the server and come from it by the program's own connection. It closes
 /// where it is dropped.
 pub struct Client {
     handle: raw::Handle,
-    // What was taken out of the full rings of seats, by their numbers, and is still to be told.
-    taken: BTreeMap<u64, VecDeque<String>>,
 }
 
 impl Client {
-    /// Opens a client with a seat for each of `rings`, which says how many items wait inside for the seat: where its ring is full they wait
-    /// here, and no call is refused.
+    /// Opens a client with a seat for each of `rings`, which says for how many items the seat has room at first: for more it grows.
     ///
     /// # Errors
     ///
@@ -23,7 +19,7 @@ impl Client {
         let mut handle = raw::Handle::closed();
         // SAFETY: the handle is closed, as the header asks, and nobody else has it; the pointer and the length are a slice's.
         match unsafe { raw::kw_client_open(&mut handle, rings.as_ptr(), rings.len()) } {
-            raw::DONE => Ok(Client { handle, taken: BTreeMap::new() }),
+            raw::DONE => Ok(Client { handle }),
             other => Err(error_of(other)),
         }
     }
@@ -118,14 +114,6 @@ impl Client {
 
     /// What that seat is told next, if anything waits for it.
     fn next(&mut self, seat: u64) -> Result<Option<String>, Error> {
-        match self.taken.get_mut(&seat).and_then(VecDeque::pop_front) {
-            Some(item) => Ok(Some(item)),
-            None => self.next_of_ring(seat),
-        }
-    }
-
-    /// The next item of that seat's ring, which has what waits for it first.
-    fn next_of_ring(&mut self, seat: u64) -> Result<Option<String>, Error> {
         // SAFETY: the handle is this client's own.
         let status = unsafe { raw::kw_client_settle(&mut self.handle, seat) };
         self.checked(status)?;
@@ -134,14 +122,6 @@ impl Client {
             (raw::NONE, _) => Ok(None),
             (status, text) => self.checked(status).map(|()| Some(text)),
         }
-    }
-
-    /// Takes out what is in that seat's ring and waits for it.
-    fn make_room(&mut self, seat: u64) -> Result<(), Error> {
-        while let Some(item) = self.next_of_ring(seat)? {
-            self.taken.entry(seat).or_default().push_back(item);
-        }
-        Ok(())
     }
 
     /// What a status means, by a look at the client where a layer refused.
@@ -370,14 +350,10 @@ impl Seat<'_> {
         })
     }
 
-    // Makes a call of the seat, and once more where its ring was full, when what was in it is taken out. The number that the call gives.
-    fn numbered(&mut self, mut call: impl FnMut(&mut raw::Handle, u64, &mut u64) -> u32) -> Result<u64, Error> {
+    // Makes a call of the seat: the number that the call gives.
+    fn numbered(&mut self, call: impl FnOnce(&mut raw::Handle, u64, &mut u64) -> u32) -> Result<u64, Error> {
         let mut given = 0;
-        let mut status = call(&mut self.client.handle, self.number, &mut given);
-        if status == raw::MAILBOX_FULL {
-            self.client.make_room(self.number)?;
-            status = call(&mut self.client.handle, self.number, &mut given);
-        }
+        let status = call(&mut self.client.handle, self.number, &mut given);
         self.client.checked(status).map(|()| given)
     }
 

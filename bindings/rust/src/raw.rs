@@ -93,7 +93,6 @@ pub const NO_MEMORY: u32 = 5;
 pub const FAILED: u32 = 6;
 pub const BAD_TEXT: u32 = 7;
 pub const WRONG_SEAT: u32 = 8;
-pub const MAILBOX_FULL: u32 = 9;
 pub const TOO_MANY_SEATS: u32 = 10;
 pub const REFUSED: u32 = 11;
 

@@ -2,6 +2,7 @@
 use Rattle.std.proofs.Common.{◌≡◌, ◌⊎◌, ◌<◌, ◌≤◌, ℕ, List, length, Bool, true, false}
 use Rattle.std.proofs.Common.{Option, Some, None, refl, sym, ap, subst, inl, inr}
 use Rattle.std.specs.Prelude.{◌==◌, if◌then◌else◌, is_some}
+use Rattle.std.specs.List.{slice_get}
 use Rattle.serde_json.specs.Written.{compact_text}
 use Rattle.rt_cover.specs.declared.listen.Kept.{Kept}
 use Rattle.rt_push.specs.declared.error.PushError.{PushError}
@@ -17,13 +18,12 @@ use Rattle.rt_client.specs.Settling.{RefusesCover, ShowsCover, TakesMessage}
 use Rattle.rt_lines.specs.declared.error.Refusal.TheVariants.{Push}
 use Rattle.rt_lines.specs.Printing.{cover_text}
 use Rattle.rt_foreign.specs.declared.client.Event.{Event}
-use Rattle.rt_foreign.specs.declared.client.OpenSeat.{OpenSeat}
 use Rattle.rt_foreign.specs.Clients.{Client, unrefused}
 use Rattle.rt_foreign.specs.Connection.{GivesTaken, IsHeard, IsUnheard, LooksOut, Sends}
 use Rattle.rt_foreign.specs.Events.{is_end, step_of_event}
 use Rattle.rt_foreign.specs.Items.{item_text}
 use Rattle.rt_foreign.specs.Looks.{GivesId, GivesKey, Shows}
-use Rattle.rt_foreign.specs.Places.{GivesFirst, GivesNext, given, looked}
+use Rattle.rt_foreign.specs.Places.{OpenSeat, GivesFirst, GivesNext, given, looked}
 use Rattle.rt_foreign.specs.Refusing.{refusal_of, status_of, status_of_outcome}
 use Rattle.rt_foreign.specs.Status as status
 use Rattle.rt_foreign.specs.Texts.{Gives}
@@ -31,19 +31,19 @@ use Rattle.rt_foreign.specs.Wants.{told}
 
 -- ---- the next item of a seat
 
-pub next_none : (old : OpenSeat) (had : List ℕ) → (looked old).first ≡ None
+pub next_none : (old : OpenSeat) (had : List ℕ) → slice_get (looked old).taken 0 ≡ None
     → GivesNext old had status.none (looked old) had 0
 next_none old had is =
     subst (λ o. GivesFirst o (looked old) had status.none (looked old) had 0) (sym is) ((refl, refl, refl), refl)
 
-pub next_lacks : (old : OpenSeat) (item : Item) (had : List ℕ) → (looked old).first ≡ Some item
+pub next_lacks : (old : OpenSeat) (item : Item) (had : List ℕ) → slice_get (looked old).taken 0 ≡ Some item
     → GivesNext old had status.no_memory (looked old) had 0
 next_lacks old item had is =
     subst (λ o. GivesFirst o (looked old) had status.no_memory (looked old) had 0) (sym is)
     (inr ((refl, refl, refl), refl))
 
 pub next_given : (old : OpenSeat) (item : Item) (had : List ℕ) (result : ℕ) (left : List ℕ) (len : ℕ)
-    → (looked old).first ≡ Some item → Gives (item_text (told (looked old).wants item)) had result left len
+    → slice_get (looked old).taken 0 ≡ Some item → Gives (item_text (told (looked old).wants item)) had result left len
     → (result == status.done) ≡ true
     → GivesNext old had result (given item (looked old)) left len
 next_given old item had result left len is text done =
@@ -54,7 +54,7 @@ next_given old item had result left len is text done =
     }))
 
 pub next_kept : (old : OpenSeat) (item : Item) (had : List ℕ) (result : ℕ) (left : List ℕ) (len : ℕ)
-    → (looked old).first ≡ Some item → Gives (item_text (told (looked old).wants item)) had result left len
+    → slice_get (looked old).taken 0 ≡ Some item → Gives (item_text (told (looked old).wants item)) had result left len
     → (result == status.done) ≡ false → GivesNext old had result (looked old) left len
 next_kept old item had result left len is text not_done =
     subst (λ o. GivesFirst o (looked old) had result (looked old) left len) (sym is) (inl (record {

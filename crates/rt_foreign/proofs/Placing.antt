@@ -10,13 +10,13 @@ use Rattle.rt_world.specs.declared.step.Call.{Call}
 use Rattle.rt_client.specs.declared.shared.Done.{Done}
 use Rattle.rt_client.specs.declared.error.ClientError.{ClientError}
 use Rattle.rt_client.specs.declared.error.ClientError.TheVariants as client
-use Rattle.rt_client.specs.Calls.{Locked, Seated, MakesCall, RefusesCall}
+use Rattle.rt_client.specs.Calls.{Locked}
 use Rattle.rt_client.specs.Settling as settling
-use Rattle.rt_foreign.specs.declared.client.OpenSeat.{OpenSeat}
 use Rattle.rt_foreign.specs.Asking.{CallsSeat, SettlesSeat, TellsSeat, WantsSeat}
 use Rattle.rt_foreign.specs.Clients.{Client, place_at, unrefused, with_place}
-use Rattle.rt_foreign.specs.Places.{GivesNext}
+use Rattle.rt_foreign.specs.Places.{OpenSeat, GivesNext}
 use Rattle.rt_foreign.specs.Refusing.{refusal_of, status_of, status_of_outcome}
+use Rattle.rt_foreign.specs.Room.{MakesCall, RefusesCall}
 use Rattle.rt_foreign.specs.Status as status
 use Rattle.rt_foreign.specs.Wants.{with_want}
 
@@ -48,57 +48,56 @@ put_there : (places : List OpenSeat) (n place : ℕ) (p : OpenSeat) → n ≡ pl
 put_there places n place p is = ap (λ k. set places k p) (sym (before n place is))
 
 -- the call of a seat is made
-pub call_made : (old : Client) (n place : ℕ) (p : OpenSeat) (c : Call) (result given : ℕ) (done : Done)
-    (shared : Locked) (seat : Seated)
+pub call_made : (old : Client) (n place : ℕ) (p after : OpenSeat) (c : Call) (result given : ℕ) (done : Done)
+    (shared : Locked)
     → place < length old.places → n ≡ place + 1 → p ≡ get_or old.places place p
-    → MakesCall old.shared p.seat c done shared seat
+    → MakesCall old.shared p.seat p.taken c done shared after.seat after.taken → after.wants ≡ p.wants
     → result ≡ status_of_outcome done.outcome → given ≡ unwrap_or done.given 0
     → CallsSeat (place_at old.places n) old n c result given (record (unrefused old) {
       shared = shared;
-      places = set old.places place (record p { seat = seat });
+      places = set old.places place after;
     })
-call_made old n place p c result given done shared seat lt is at made result_is given_is =
-    let new : Client = record (unrefused old) {
-      shared = shared;
-      places = set old.places place (record p { seat = seat });
-    } in
+call_made old n place p after c result given done shared lt is at made kept result_is given_is =
+    let new : Client = record (unrefused old) { shared = shared; places = set old.places place after } in
     subst (λ o. CallsSeat o old n c result given new) (sym (at_place old.places n place p lt is at)) (inl (record {
       done = done;
       shared = shared;
-      seat = seat;
+      after = after;
       made = made;
+      kept = kept;
       status = result_is;
       numbered = given_is;
       client = ap (λ ps. record (unrefused old) { shared = shared; places = ps })
-          (put_there old.places n place (record p { seat = seat }) is);
+          (put_there old.places n place after is);
     }))
 
 -- it is refused
-pub call_refused : (old : Client) (n place : ℕ) (p : OpenSeat) (c : Call) (result given : ℕ) (why : ClientError)
-    (shared : Locked) (seat : Seated)
+pub call_refused : (old : Client) (n place : ℕ) (p after : OpenSeat) (c : Call) (result given : ℕ)
+    (why : ClientError) (shared : Locked)
     → place < length old.places → n ≡ place + 1 → p ≡ get_or old.places place p
-    → RefusesCall old.shared p.seat c why shared seat
+    → RefusesCall old.shared p.seat p.taken c why shared after.seat after.taken → after.wants ≡ p.wants
     → result ≡ status_of why → given ≡ 0
     → CallsSeat (place_at old.places n) old n c result given (record old {
       shared = shared;
-      places = set old.places place (record p { seat = seat });
+      places = set old.places place after;
       refused = refusal_of why;
     })
-call_refused old n place p c result given why shared seat lt is at refused result_is given_is =
+call_refused old n place p after c result given why shared lt is at refused kept result_is given_is =
     let new : Client = record old {
       shared = shared;
-      places = set old.places place (record p { seat = seat });
+      places = set old.places place after;
       refused = refusal_of why;
     } in
     subst (λ o. CallsSeat o old n c result given new) (sym (at_place old.places n place p lt is at)) (inr (record {
       why = why;
       shared = shared;
-      seat = seat;
+      after = after;
       refused = refused;
+      kept = kept;
       status = result_is;
       numbered = given_is;
       client = ap (λ ps. record old { shared = shared; places = ps; refused = refusal_of why })
-          (put_there old.places n place (record p { seat = seat }) is);
+          (put_there old.places n place after is);
     }))
 
 -- the client has no such seat
@@ -120,51 +119,49 @@ pub told_nowhere : (old : Client) (n : ℕ) (had : List ℕ) → place_at old.pl
 told_nowhere old n had is =
     subst (λ o. TellsSeat o old n had status.wrong_seat (unrefused old) had 0) (sym is) ((refl, refl, refl), refl)
 
-pub settled : (old : Client) (n place : ℕ) (p : OpenSeat) (shared : Locked) (seat : Seated)
+pub settled : (old : Client) (n place : ℕ) (p after : OpenSeat) (shared : Locked)
     → place < length old.places → n ≡ place + 1 → p ≡ get_or old.places place p
-    → settling.Settles old.shared p.seat shared seat
+    → settling.Settles old.shared p.seat shared after.seat → after ≡ record p { seat = after.seat }
     → SettlesSeat (place_at old.places n) old n status.done (record (unrefused old) {
       shared = shared;
-      places = set old.places place (record p { seat = seat });
+      places = set old.places place after;
     })
-settled old n place p shared seat lt is at settles =
-    let new : Client = record (unrefused old) {
-      shared = shared;
-      places = set old.places place (record p { seat = seat });
-    } in
+settled old n place p after shared lt is at settles kept =
+    let new : Client = record (unrefused old) { shared = shared; places = set old.places place after } in
     subst (λ o. SettlesSeat o old n status.done new) (sym (at_place old.places n place p lt is at)) (inl (record {
       shared = shared;
-      seat = seat;
+      seat = after.seat;
       settles = settles;
       status = refl;
       client = ap (λ ps. record (unrefused old) { shared = shared; places = ps })
-          (put_there old.places n place (record p { seat = seat }) is);
+          (put_there old.places n place after is ∙ ap (λ q. with_place n q old.places) kept);
     }))
 
-pub unsettled : (old : Client) (n place : ℕ) (p : OpenSeat) (result : ℕ) (why : ClientError) (shared : Locked)
-    (seat : Seated)
+pub unsettled : (old : Client) (n place : ℕ) (p after : OpenSeat) (result : ℕ) (why : ClientError)
+    (shared : Locked)
     → place < length old.places → n ≡ place + 1 → p ≡ get_or old.places place p
-    → settling.RefusesSettle old.shared p.seat why shared seat → why ≢ client.NoMemory → result ≡ status_of why
+    → settling.RefusesSettle old.shared p.seat why shared after.seat → after ≡ record p { seat = after.seat }
+    → why ≢ client.NoMemory → result ≡ status_of why
     → SettlesSeat (place_at old.places n) old n result (record old {
       shared = shared;
-      places = set old.places place (record p { seat = seat });
+      places = set old.places place after;
       refused = refusal_of why;
     })
-unsettled old n place p result why shared seat lt is at refused memory result_is =
+unsettled old n place p after result why shared lt is at refused kept memory result_is =
     let new : Client = record old {
       shared = shared;
-      places = set old.places place (record p { seat = seat });
+      places = set old.places place after;
       refused = refusal_of why;
     } in
     subst (λ o. SettlesSeat o old n result new) (sym (at_place old.places n place p lt is at)) (inr (record {
       why = why;
       memory = memory;
       shared = shared;
-      seat = seat;
+      seat = after.seat;
       refused = refused;
       status = result_is;
       client = ap (λ ps. record old { shared = shared; places = ps; refused = refusal_of why })
-          (put_there old.places n place (record p { seat = seat }) is);
+          (put_there old.places n place after is ∙ ap (λ q. with_place n q old.places) kept);
     }))
 
 pub told : (old : Client) (n place : ℕ) (p after : OpenSeat) (had : List ℕ) (result : ℕ) (left : List ℕ) (len : ℕ)
@@ -185,23 +182,31 @@ pub wanted_nowhere : (old : Client) (n listener : ℕ) (kinds : Kinds) → place
 wanted_nowhere old n listener kinds is =
     subst (λ o. WantsSeat o n old listener kinds status.wrong_seat (unrefused old)) (sym is) (refl, refl)
 
-pub wanted : (old : Client) (n place listener : ℕ) (kinds : Kinds) (p : OpenSeat)
+pub wanted : (old : Client) (n place listener : ℕ) (kinds : Kinds) (p after : OpenSeat)
     → place < length old.places → n ≡ place + 1 → p ≡ get_or old.places place p
+    → after ≡ record p { wants = with_want listener kinds p.wants }
     → WantsSeat (place_at old.places n) n old listener kinds status.done (record (unrefused old) {
-      places = set old.places place (record p { wants = with_want listener kinds p.wants });
+      places = set old.places place after;
     })
-wanted old n place listener kinds p lt is at =
-    let after : OpenSeat = record p { wants = with_want listener kinds p.wants } in
+wanted old n place listener kinds p after lt is at after_is =
     let new : Client = record (unrefused old) { places = set old.places place after } in
     subst (λ o. WantsSeat o n old listener kinds status.done new) (sym (at_place old.places n place p lt is at))
-    (inl (refl, ap (λ ps. record (unrefused old) { places = ps }) (put_there old.places n place after is)))
+    (inl (
+      refl,
+      ap (λ ps. record (unrefused old) { places = ps })
+          (put_there old.places n place after is ∙ ap (λ q. with_place n q old.places) after_is),
+    ))
 
-pub unwanted : (old : Client) (n place listener : ℕ) (kinds : Kinds) (p : OpenSeat)
-    → place < length old.places → n ≡ place + 1 → p ≡ get_or old.places place p
+pub unwanted : (old : Client) (n place listener : ℕ) (kinds : Kinds) (p after : OpenSeat)
+    → place < length old.places → n ≡ place + 1 → p ≡ get_or old.places place p → after ≡ p
     → WantsSeat (place_at old.places n) n old listener kinds status.no_memory (record (unrefused old) {
-      places = set old.places place p;
+      places = set old.places place after;
     })
-unwanted old n place listener kinds p lt is at =
-    let new : Client = record (unrefused old) { places = set old.places place p } in
+unwanted old n place listener kinds p after lt is at after_is =
+    let new : Client = record (unrefused old) { places = set old.places place after } in
     subst (λ o. WantsSeat o n old listener kinds status.no_memory new) (sym (at_place old.places n place p lt is at))
-    (inr (refl, ap (λ ps. record (unrefused old) { places = ps }) (put_there old.places n place p is)))
+    (inr (
+      refl,
+      ap (λ ps. record (unrefused old) { places = ps })
+          (put_there old.places n place after is ∙ ap (λ q. with_place n q old.places) after_is),
+    ))

@@ -1,6 +1,6 @@
 -- Texts, paths and trees that are read from bytes.
 use Rattle.std.proofs.Common.{◌≡◌, ◌⊎◌, ℕ, List, Option, Some, None, Result, Ok, Err, IfSome, true, false, cond, refl, sym, subst, ap, ◌∙◌, inl, inr}
-use Rattle.std.specs.Prelude.{IfErr, IfOk, is_some}
+use Rattle.std.specs.Prelude.{IfErr, IfOk}
 use Rattle.std.specs.Option.{option_map, option_map_or}
 use Rattle.std.specs.Str.{IsUtf8, is_utf8}
 use Rattle.std.proofs.lemmas.Result.{IfOk-weaker}

@@ -5,24 +5,24 @@ use Rattle.rt_world.specs.declared.step.Call.{Call}
 use Rattle.rt_client.specs.declared.shared.Done.{Done}
 use Rattle.rt_client.specs.declared.error.ClientError.{ClientError}
 use Rattle.rt_client.specs.declared.error.ClientError.TheVariants as client
-use Rattle.rt_client.specs.Calls.{Locked, Seated, MakesCall, RefusesCall}
+use Rattle.rt_client.specs.Calls.{Locked, Seated}
 use Rattle.rt_client.specs.Settling as settling
 use Rattle.rt_lines.specs.declared.error.LineError.{LineError}
 use Rattle.rt_lines.specs.declared.error.LineError.TheVariants.{NoMemory}
-use Rattle.rt_foreign.specs.declared.client.OpenSeat.{OpenSeat}
 use Rattle.rt_foreign.specs.Clients.{Client, place_at, unrefused, with_place}
-use Rattle.rt_foreign.specs.Places.{GivesNext, GivesNothing}
+use Rattle.rt_foreign.specs.Places.{OpenSeat, GivesNext, GivesNothing}
 use Rattle.rt_foreign.specs.Refusing.{refusal_of, refusal_read, status_of, status_of_outcome, status_read}
+use Rattle.rt_foreign.specs.Room.{MakesCall, RefusesCall}
 use Rattle.rt_foreign.specs.Status as status
 use Rattle.rt_foreign.specs.Wants.{with_want}
 
 -- ---- calls that listen and write
 
 -- the client inside and the seat of that number are others then
-abbrev pub with_seat : Client → ℕ → OpenSeat → Locked → Seated → Client
-with_seat client number place shared seat = record client {
+abbrev pub with_seat : Client → ℕ → Locked → OpenSeat → Client
+with_seat client number shared place = record client {
   shared = shared;
-  places = with_place number (record place { seat = seat }) client.places;
+  places = with_place number place client.places;
 }
 
 -- the call of a seat is made; its listener or request has that number, or it has none
@@ -30,22 +30,24 @@ pub record IsMade (old : Client) (number : ℕ) (place : OpenSeat) (c : Call) (r
     : Type 0 where
   pub done : Done
   pub shared : Locked
-  pub seat : Seated
-  pub made : MakesCall old.shared place.seat c done shared seat
+  pub after : OpenSeat
+  pub made : MakesCall old.shared place.seat place.taken c done shared after.seat after.taken
+  pub kept : after.wants ≡ place.wants
   pub status : result ≡ status_of_outcome done.outcome
   pub numbered : given ≡ unwrap_or done.given 0
-  pub client : new ≡ with_seat (unrefused old) number place shared seat
+  pub client : new ≡ with_seat (unrefused old) number shared after
 
 -- it is refused: by the client, or by its core, and then that is kept
 pub record IsRefused (old : Client) (number : ℕ) (place : OpenSeat) (c : Call) (result given : ℕ) (new : Client)
     : Type 0 where
   pub why : ClientError
   pub shared : Locked
-  pub seat : Seated
-  pub refused : RefusesCall old.shared place.seat c why shared seat
+  pub after : OpenSeat
+  pub refused : RefusesCall old.shared place.seat place.taken c why shared after.seat after.taken
+  pub kept : after.wants ≡ place.wants
   pub status : result ≡ status_of why
   pub numbered : given ≡ 0
-  pub client : new ≡ with_seat (record old { refused = refusal_of why }) number place shared seat
+  pub client : new ≡ with_seat (record old { refused = refusal_of why }) number shared after
 
 -- the client has no such seat
 abbrev pub IsNoSeat : Client → ℕ → ℕ → Client → Type 0
@@ -76,7 +78,7 @@ pub record IsSettled (old : Client) (number : ℕ) (place : OpenSeat) (result : 
   pub seat : Seated
   pub settles : settling.Settles old.shared place.seat shared seat
   pub status : result ≡ status.done
-  pub client : new ≡ with_seat (unrefused old) number place shared seat
+  pub client : new ≡ with_seat (unrefused old) number shared (record place { seat = seat })
 
 -- it is not, and no memory has lacked for it
 pub record IsUnsettled (old : Client) (number : ℕ) (place : OpenSeat) (result : ℕ) (new : Client) : Type 0 where
@@ -86,7 +88,8 @@ pub record IsUnsettled (old : Client) (number : ℕ) (place : OpenSeat) (result 
   pub seat : Seated
   pub refused : settling.RefusesSettle old.shared place.seat why shared seat
   pub status : result ≡ status_of why
-  pub client : new ≡ with_seat (record old { refused = refusal_of why }) number place shared seat
+  pub client :
+      new ≡ with_seat (record old { refused = refusal_of why }) number shared (record place { seat = seat })
 
 abbrev pub SettlesSeat : Option OpenSeat → Client → ℕ → ℕ → Client → Type 0
 SettlesSeat None old number result new = (result ≡ status.wrong_seat) × (new ≡ unrefused old)

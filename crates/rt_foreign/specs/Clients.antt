@@ -6,7 +6,7 @@ use Rattle.rt_wire.specs.declared.client.ClientMessage.{ClientMessage}
 use Rattle.rt_lines.specs.declared.error.Refusal.{Refusal}
 use Rattle.rt_client.specs.Calls.{Locked, Seated}
 use Rattle.rt_client.specs.Opened.{new_locked, seats_from}
-use Rattle.rt_foreign.specs.declared.client.OpenSeat.{OpenSeat}
+use Rattle.rt_foreign.specs.Places.{OpenSeat}
 
 -- the client inside; its seats by their numbers, from 1; the message that was taken out of it and is still to
 -- be given; and which layer refused the last call, and why, if one did
@@ -18,7 +18,7 @@ pub record Client : Type 0 where
 
 -- seats of whose rings nothing was taken, and whose listeners are told all
 abbrev pub new_place : Seated → OpenSeat
-new_place seat = record { seat = seat; first = None; wants = [] }
+new_place seat = record { seat = seat; taken = []; wants = [] }
 
 abbrev pub places_from : List Seated → List OpenSeat
 places_from seats = map new_place seats

@@ -1,31 +1,39 @@
--- A seat as C has it: its ring, the item that was taken out of it and is still to be given, and which kinds of
--- changes its listeners are told.
-use Rattle.std.specs.Prelude.{◌≡◌, ◌⊎◌, ◌==◌, ℕ, List, drop, if◌then◌else◌, Option, Some, None}
+-- A seat as C has it, and how its next item is given.
+use Rattle.std.specs.Prelude.{◌≡◌, ◌⊎◌, ◌==◌, ℕ, List, [], ◌∷◌, take, drop, if◌then◌else◌}
+use Rattle.std.specs.Prelude.{Option, Some, None}
 use Rattle.std.specs.List.{slice_get}
 use Rattle.rt_mail.specs.declared.item.Item.{Item}
 use Rattle.rt_client.specs.Calls.{Seated}
-use Rattle.rt_foreign.specs.declared.client.OpenSeat.{OpenSeat}
 use Rattle.rt_foreign.specs.Items.{item_text}
 use Rattle.rt_foreign.specs.Status as status
 use Rattle.rt_foreign.specs.Texts.{Gives}
-use Rattle.rt_foreign.specs.Wants.{after_given, told}
+use Rattle.rt_foreign.specs.Wants.{Wants, after_given, told}
 
--- the seat without the first item of its ring
-abbrev pub without_first : Seated → Seated
-without_first seat = record seat { ring = record seat.ring { items = drop 1 seat.ring.items } }
+-- a seat with its ring; the items that were taken out of the ring and are given before those in it; and which
+-- kinds of changes its listeners are told
+pub record OpenSeat : Type 0 where
+  pub seat : Seated
+  pub taken : List Item
+  pub wants : Wants
+
+-- the place with these items taken out, and those in its ring
+abbrev pub holding : List Item → List Item → OpenSeat → OpenSeat
+holding taken ring place = record place {
+  seat = record place.seat { ring = record place.seat.ring { items = ring } };
+  taken = taken;
+}
 
 -- the first item of the ring is taken out, where none was before
-abbrev pub look_at : Option Item → OpenSeat → OpenSeat
-look_at None place =
-    record place { seat = without_first place.seat; first = slice_get place.seat.ring.items 0 }
-look_at (Some item) place = record place { first = Some item }
+abbrev pub look_at : List Item → OpenSeat → OpenSeat
+look_at [] place = holding (take 1 place.seat.ring.items) (drop 1 place.seat.ring.items) place
+look_at (item ∷ rest) place = place
 
 abbrev pub looked : OpenSeat → OpenSeat
-looked place = look_at place.first place
+looked place = look_at place.taken place
 
 -- an item is given, and is gone
 abbrev pub given : Item → OpenSeat → OpenSeat
-given item place = record place { first = None; wants = after_given place.wants item }
+given item place = record place { taken = drop 1 place.taken; wants = after_given place.wants item }
 
 -- nothing is given
 abbrev pub GivesNothing : ℕ → List ℕ → ℕ → List ℕ → ℕ → Type 0
@@ -47,4 +55,4 @@ GivesFirst (Some item) place had result new left len =
 
 abbrev pub GivesNext : OpenSeat → List ℕ → ℕ → OpenSeat → List ℕ → ℕ → Type 0
 GivesNext old had result new left len =
-    GivesFirst (looked old).first (looked old) had result new left len
+    GivesFirst (slice_get (looked old).taken 0) (looked old) had result new left len

@@ -12,26 +12,22 @@ ghost use Rattle.rt_foreign.specs.Connection.{HearsOf, IsHeard, IsUnheard, Looks
 ghost use Rattle.rt_foreign.specs.Looks.{GivesKey, GivesWhy, Shows};
 ghost use Rattle.rt_foreign.specs.Refusing.{refusal_of, refusal_read, status_of, status_read};
 ghost use Rattle.rt_foreign.specs.Events.{event_read, is_end, step_of_event};
-ghost use Rattle.rt_foreign.specs.Places.{GivesNext, looked};
-ghost use Rattle.rt_foreign.specs.Items.{item_text};
-ghost use Rattle.rt_foreign.specs.Wants.{after_given, ended, kinds_of, told, wanted, with_want};
-ghost use Rattle.rt_mail.specs.declared.item.Item.TheVariants as kind;
+ghost use Rattle.rt_foreign.specs.Room.{CanHold};
+ghost use Rattle.std.specs.List.{All};
 
 use crate::calls::text_of;
-use crate::item::item_text;
+use crate::seat::OpenSeat;
 use crate::session::give;
 use crate::status::{
     DONE, FAILED, NO_MEMORY, NONE, REFUSED, TOO_SMALL, WRONG_SEAT, refusal_of, refusal_read,
     status_of, status_of_outcome, status_read,
 };
-use rt_client::{Call, ClientError, Seat, Shared, with_seat};
+use rt_client::{Call, ClientError, Seat, Shared};
 use rt_lines::{LineError, Refusal, write_cover};
-use rt_mail::{Item, Receipt};
-use rt_view::{Batch, Kinds, of_kinds};
+use rt_view::Kinds;
 use rt_wire::{ClientMessage, ServerMessage, WireError};
 use rt_world::{Limits, Outcome};
 use std::alloc::{AllocError, Global};
-use std::collections::BTreeMap;
 use std::marker::Model;
 use std::mem;
 
@@ -61,16 +57,12 @@ impl Model for Client {
 
 // The seats, of whose rings nothing was taken.
 fn places_of(alloc: Global, seats: Vec<Seat>) -> Result<Vec<OpenSeat>, AllocError>
+    requires { All CanHold seats.items }
     ensures { IfOk result (λ places. places.items ≡ places_from seats.items) }
 {
     let mut places = Vec::with_capacity(alloc, seats.len())?;
     for seat in seats {
-        let wants = Wants::new(alloc);
-        places.push(OpenSeat {
-            seat,
-            first: None,
-            wants,
-        })?;
+        places.push(OpenSeat::new(alloc, seat)?)?;
     }
     Ok(places)
 }
@@ -93,6 +85,7 @@ fn place_of(places: &Vec<OpenSeat>, number: u64) -> Option<usize>
 
 impl Client {
     /// A new client with a seat for each capacity of a ring.
+    #[tactic(auto, using(crate::proofs::Room::all_hold))]
     pub fn open(alloc: Global, rings: &[usize]) -> Result<Client, ClientError>
         ensures few { IfOk result (λ client. length rings.now ≤ 64) }
         ensures opened { IfOk result (λ client. client ≡ new_client rings.now) }
@@ -139,7 +132,7 @@ impl Client {
             drop(call);
             return WRONG_SEAT;
         };
-        match with_seat(&mut self.shared, &mut self.places[place].seat, call) {
+        match self.places[place].call(&mut self.shared, call) {
             Ok(done) => {
                 *given = done.given.unwrap_or(0);
                 status_of_outcome(done.outcome)
@@ -250,7 +243,7 @@ impl Client {
         let Some(place) = place_of(&self.places, number) else {
             return WRONG_SEAT;
         };
-        match self.shared.settle(&mut self.places[place].seat) {
+        match self.places[place].settle(&mut self.shared) {
             Ok(()) => DONE,
             Err(why) => self.refuse(why),
         }
@@ -265,7 +258,7 @@ impl Client {
         let Some(place) = place_of(&self.places, number) else {
             return WRONG_SEAT;
         };
-        if self.places[place].wants.want(listener, kinds).is_err() {
+        if self.places[place].want(listener, kinds).is_err() {
             return NO_MEMORY;
         }
         DONE
@@ -396,160 +389,5 @@ pub(crate) fn tell(shared: &mut Shared, event: Event) -> Result<Outcome, ClientE
         Event::Connected => shared.connected(),
         Event::Disconnected => shared.disconnected(),
         Event::Message(message) => shared.server_message(message),
-    }
-}
-
-// ---- a seat, and the item that it was asked for and that is still to be had
-
-/// A seat, the item that was taken out of its ring and is still to be given, and which kinds of changes its
-/// listeners are told.
-#[derive(Drop)]
-pub struct OpenSeat {
-    pub seat: Seat,
-    pub first: Option<Item>,
-    pub wants: Wants,
-}
-
-impl OpenSeat {
-    // Takes the first item out of the ring, where none was taken before.
-    fn look(&mut self)
-        ensures { self.new ≡ looked self.old }
-    {
-        if self.first.is_none() {
-            let next = self.seat.next();
-            drop(mem::replace(&mut self.first, next));
-        }
-    }
-
-    /// Gives the text of the first item, where its room is enough for it: then the item is gone.
-    #[tactic(auto, using(crate::proofs::Giving::next_none, crate::proofs::Giving::next_lacks, crate::proofs::Giving::next_given, crate::proofs::Giving::next_kept))]
-    pub fn next(&mut self, alloc: Global, out: &mut [u8], len: &mut usize) -> u32
-        ensures { GivesNext self.old out.old result self.new out.new len.new }
-    {
-        *len = 0;
-        self.look();
-        let Some(item) = &self.first else {
-            return NONE;
-        };
-        let Ok(text) = self.wants.text(alloc, item) else {
-            return NO_MEMORY;
-        };
-        let status = give(text.as_str().as_bytes(), out, len);
-        if status == DONE {
-            self.wants.forget(item);
-            drop(self.first.take());
-        }
-        status
-    }
-}
-
-// ---- which kinds of changes the batches of a seat's listeners are given with
-
-/// The kinds that bits ask for: of 1 removed, 2 added, 4 moved, 8 changed, 16 the value. Other bits are passed over.
-pub fn kinds_of(bits: u32) -> Kinds
-    ensures { result ≡ kinds_of bits }
-{
-    Kinds {
-        removed: bits % 2 == 1,
-        added: bits / 2 % 2 == 1,
-        moved: bits / 4 % 2 == 1,
-        changed: bits / 8 % 2 == 1,
-        value: bits / 16 % 2 == 1,
-    }
-}
-
-/// The kinds that listeners are told, by the numbers of the listeners. One that is not named is told all.
-pub struct Wants {
-    kinds: BTreeMap<u64, Kinds>,
-}
-
-impl Drop for Wants {
-    fn drop(self) {
-        let Wants { kinds: _ } = self;
-    }
-}
-
-impl Model for Wants {
-    ghost use Rattle.std.specs.BTreeMap.{IsOrdered};
-    ghost use Rattle.std.specs.Ordering.{nat_cmp};
-    ghost use Rattle.rt_foreign.specs.Wants.{Wants as Asked};
-
-    ghost Value = { Asked };
-
-    ghost view = { λ a. a.kinds.entries };
-
-    ghost invariant = { λ a. IsOrdered nat_cmp a.kinds };
-}
-
-impl Wants {
-    /// All listeners are told all kinds.
-    pub fn new(alloc: Global) -> Wants
-        ensures { result ≡ [] }
-    {
-        Wants {
-            kinds: BTreeMap::new(alloc),
-        }
-    }
-
-    /// A listener is told these kinds from then on.
-    pub fn want(&mut self, listener: u64, kinds: Kinds) -> Result<(), AllocError>
-        ensures wanted { OnOk result (self.new ≡ with_want listener kinds self.old) }
-        ensures unchanged { IfErr result (λ _. self.new ≡ self.old) }
-    {
-        drop(self.kinds.insert(listener, kinds)?);
-        Ok(())
-    }
-
-    // The kinds that a listener is told, where it is not told all.
-    fn of(&self, listener: u64) -> Option<Kinds>
-        ensures { result ≡ wanted listener self.now }
-    {
-        self.kinds.get(&listener).copied()
-    }
-
-    // What was said of a listener goes with it.
-    fn end(&mut self, listener: u64)
-        ensures { self.new ≡ ended listener self.old }
-    {
-        drop(self.kinds.remove(&listener));
-    }
-
-    // A batch with the kinds that its listener is told.
-    fn batch_text(&self, alloc: Global, item: &Item, batch: &Batch) -> Result<String, AllocError>
-        requires { item.now ≡ kind.Batch batch.now }
-        ensures { IfOk result (λ text. string_bytes text ≡ item_text (told self.now item.now)) }
-    {
-        let Some(kinds) = self.of(batch.listener) else {
-            return item_text(alloc, item);
-        };
-        let changes = of_kinds(alloc, batch, kinds)?;
-        let listener = batch.listener;
-        let few = Item::Batch(Batch { listener, changes });
-        item_text(alloc, &few)
-    }
-
-    /// What a seat is told, as JSON, with the kinds that its listener is told.
-    pub fn text(&self, alloc: Global, item: &Item) -> Result<String, AllocError>
-        ensures { IfOk result (λ text. string_bytes text ≡ item_text (told self.now item.now)) }
-    {
-        match item {
-            Item::Batch(batch) => self.batch_text(alloc, item, batch),
-            Item::Receipt(_) | Item::Settled { .. } | Item::Cancelled { .. } => {
-                item_text(alloc, item)
-            }
-        }
-    }
-
-    /// An item was given: with the last of a listener goes what was said of it.
-    pub fn forget(&mut self, item: &Item)
-        ensures { self.new ≡ after_given self.old item.now }
-    {
-        match item {
-            Item::Receipt(Receipt::Unlistened { listener }) => self.end(*listener),
-            Item::Cancelled { listener, .. } => self.end(*listener),
-            Item::Receipt(Receipt::Listened { .. } | Receipt::Wrote { .. } | Receipt::Asked { .. })
-            | Item::Batch(_)
-            | Item::Settled { .. } => {}
-        }
     }
 }

@@ -17,15 +17,17 @@ mod client;
 pub mod examples;
 mod handle;
 mod item;
+mod seat;
 mod session;
 mod status;
 
 pub use calls::{
     at_end_call, cancel_call, listen_call, remove_call, set_call, update_at_end_call, update_call,
 };
-pub use client::{Client, Event, OpenSeat, Wants, kinds_of, message_of};
+pub use client::{Client, Event, message_of};
 pub use handle::{Handle, HandleContent};
 pub use item::item_text;
+pub use seat::{Wants, kinds_of};
 pub use session::{Session, give};
 pub use status::{
     BAD_TEXT, CLOSED, DONE, FAILED, MAILBOX_FULL, NO_MEMORY, NONE, REFUSED, STALE, TOO_MANY_SEATS,
